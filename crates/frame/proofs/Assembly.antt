@@ -1,0 +1,48 @@
+-- A frame put together at the front of some bytes.
+use mathlib.Core.Path.{_≡_, refl, sym, ap, _∙_}
+use mathlib.Core.List.{List, [], _∷_, _++_}
+use Prim.Native.Nat.{ℕ, suc, _+_, _-_, _%_, _<_, _≤_}
+use native.Mathlib.Omega.{arith}
+use borrow.Rule.Slice.PartMut.{putMid}
+use lib.ListN.{length, getD, set, take, drop}
+use Rattle.std.specs.shelf.Lists.{sum}
+use Rattle.std.proofs.shelf.Lists.{drop-more, set-at, take-at, append-assoc, length-append}
+use Rattle.frame.specs.Seal.{Sealed, check-byte, framed}
+use Rattle.frame.specs.Written.{fronted}
+use Rattle.frame.proofs.Sums.{sealed}
+
+-- The kind and the length byte are set, and the payload copied behind them.
+pub body-front : (bs payload : List ℕ) (k n : ℕ) → length payload ≡ n → n + 2 ≤ length bs → putMid 2 (n + 2 - 2) (set (set bs 0 k) 1 n) payload ≡ (k ∷ n ∷ payload) ++ drop (n + 2) bs
+body-front [] payload k n len room = absurd (omega arith)
+body-front (x ∷ []) payload k n len room = absurd (omega arith)
+body-front (x ∷ y ∷ rest) payload k n len room =
+    let m : n + 2 - 2 ≡ n = omega arith in
+    let s : n + 2 ≡ suc (suc n) = omega arith in
+    rw (m, s)
+
+-- One byte more behind what stands at the front.
+pub front-more : (body bs : List ℕ) (n b : ℕ) → length body ≡ n → n < length bs → set (body ++ drop n bs) n b ≡ fronted (body ++ b ∷ []) bs
+front-more body bs n b len room =
+    let longer : length (body ++ b ∷ []) ≡ n + 1 = omega (arith, length-append body (b ∷ [])) in
+    ap (λ l. set (body ++ l) n b) (drop-more bs n 0 room)
+    ∙ set-at body (getD bs n 0) (drop (n + 1) bs) b n len
+    ∙ sym (append-assoc body (b ∷ []) (drop (n + 1) bs))
+    ∙ ap (λ m. (body ++ b ∷ []) ++ drop m bs) (sym longer)
+
+-- The check byte behind the body completes the frame.
+pub frame-front : (bs front payload : List ℕ) (kind n total : ℕ) → length payload ≡ n → n + 2 < length bs → front ≡ (kind ∷ n ∷ payload) ++ drop (n + 2) bs → total ≡ sum (take (n + 2 - 0) front) % 256 → take (n + 3) (set front (n + 2) ((0 + (256 - total)) % 256)) ≡ (kind ∷ n ∷ payload) ++ check-byte (kind ∷ n ∷ payload) ∷ []
+frame-front bs front payload kind n total len room is sums =
+    let body = kind ∷ n ∷ payload in
+    let check = (0 + (256 - total)) % 256 in
+    let long : length body ≡ n + 2 = omega arith in
+    let longer : length (body ++ check ∷ []) ≡ n + 3 = omega (arith, length-append payload (check ∷ [])) in
+    let all : n + 2 - 0 ≡ n + 2 = omega arith in
+    let whole : take (n + 2 - 0) front ≡ body = ap (λ m. take m front) all ∙ ap (take (n + 2)) is ∙ take-at body (drop (n + 2) bs) (n + 2) long in
+    let seal : check ≡ check-byte body = omega (arith, sums ∙ ap (λ l. sum l % 256) whole) in
+    ap (λ l. take (n + 3) (set l (n + 2) check)) is
+    ∙ ap (take (n + 3)) (front-more body bs (n + 2) check long room)
+    ∙ take-at (body ++ check ∷ []) (drop (length (body ++ check ∷ [])) bs) (n + 3) longer
+    ∙ ap (λ b. body ++ b ∷ []) seal
+
+pub sealed-framed : (kind : ℕ) (payload : List ℕ) → Sealed (framed kind payload)
+sealed-framed kind payload = sealed (kind ∷ length payload ∷ payload)

@@ -1,0 +1,7 @@
+pub mod Assembly
+pub mod Decoding
+pub mod Digits
+pub mod Numbers
+pub mod Spelling
+pub mod Sums
+pub mod Tests

@@ -1,0 +1,21 @@
+// A frame: kind, length byte, payload and check byte.
+ghost use mathlib.Core.Path.{_≡_};
+ghost use Prim.Native.Nat.{_≤_};
+ghost use lib.ListN.{take};
+ghost use Rattle.frame.specs.Seal.{Sealed};
+
+mod parts;
+mod read;
+mod write;
+
+pub use parts::Field;
+
+// At most 64 bytes, whose sum is a multiple of 256.
+#[derive(Clone, Copy)]
+pub struct Frame {
+    bytes: [u8; 64],
+    len: usize,
+    ghost least: { 3 ≤ len },
+    ghost most: { len ≤ 64 },
+    ghost checked: { Sealed (take len bytes) },
+}
