@@ -1,13 +1,15 @@
 -- A frame put together at the front of some bytes.
-use mathlib.Core.Path.{_≡_, refl, sym, ap, _∙_}
+use mathlib.Core.Path.{_≡_, refl, sym, ap, subst, _∙_}
 use mathlib.Core.List.{List, [], _∷_, _++_}
 use Prim.Native.Nat.{ℕ, suc, _+_, _-_, _%_, _<_, _≤_}
 use native.Mathlib.Omega.{arith}
 use borrow.Rule.Slice.PartMut.{putMid}
 use lib.ListN.{length, getD, set, take, drop}
-use Rattle.std.specs.shelf.Lists.{sum}
-use Rattle.std.proofs.shelf.Lists.{drop-more, set-at, take-at, append-assoc, length-append}
-use Rattle.frame.specs.Seal.{Sealed, check-byte, framed}
+use Rattle.std.specs.shelf.Lists.{sum, All}
+use Rattle.std.proofs.shelf.Lists.{drop-more, drop-all, set-at, take-at, take-append-drop, append-assoc, length-append, length-take-le}
+use Rattle.std.proofs.shelf.Elements.{all-getD, all-append}
+use Rattle.std.proofs.shelf.Sums.{sumBy-push}
+use Rattle.frame.specs.Seal.{Sealed, check-byte, framed, kind-of, length-byte, payload-of}
 use Rattle.frame.specs.Written.{fronted}
 use Rattle.frame.proofs.Sums.{sealed}
 
@@ -46,3 +48,32 @@ frame-front bs front payload kind n total len room is sums =
 
 pub sealed-framed : (kind : ℕ) (payload : List ℕ) → Sealed (framed kind payload)
 sealed-framed kind payload = sealed (kind ∷ length payload ∷ payload)
+
+-- The check byte is the only one that seals.
+check-only : (body : List ℕ) (b : ℕ) → b < 256 → Sealed (body ++ b ∷ []) → b ≡ check-byte body
+check-only body b fits checked = let more = sumBy-push (λ x. x) body b in omega arith
+
+last-alone : (rest : List ℕ) (m : ℕ) → length rest ≡ m + 1 → rest ≡ take m rest ++ getD rest m 0 ∷ []
+last-alone rest m len =
+    sym (take-append-drop m rest)
+    ∙ ap (λ l. take m rest ++ l) (drop-more rest m 0 (omega arith) ∙ ap (λ l. getD rest m 0 ∷ l) (drop-all (m + 1) rest (omega arith)))
+
+-- A frame whose length byte counts its payload is the one frame of its kind and payload.
+pub whole : (frame : List ℕ) → 3 ≤ length frame → All (λ b. b < 256) frame → Sealed frame → length-byte frame ≡ length frame - 3 → frame ≡ framed (kind-of frame) (payload-of frame)
+whole [] least fit checked says = absurd (omega arith)
+whole (k ∷ []) least fit checked says = absurd (omega arith)
+whole (k ∷ n ∷ rest) least fit checked says =
+    let m = length (k ∷ n ∷ rest) - 3 in
+    let last = getD rest m 0 in
+    let payload = take m rest in
+    let long : length rest ≡ m + 1 = omega arith in
+    let split = last-alone rest m long in
+    let len : length payload ≡ n = length-take-le m rest (omega arith) ∙ sym says in
+    let fits : last < 256 = all-getD (λ b. b < 256) rest m 0 (omega arith) (fit .1 .1) in
+    let seal : last ≡ check-byte (k ∷ n ∷ payload) = check-only (k ∷ n ∷ payload) last fits (subst (λ l. Sealed (k ∷ n ∷ l)) split checked) in
+    ap (λ l. k ∷ n ∷ l) split ∙ ap (λ b. k ∷ n ∷ (payload ++ b ∷ [])) seal ∙ ap (λ c. k ∷ c ∷ (payload ++ check-byte (k ∷ c ∷ payload) ∷ [])) (sym len)
+
+-- A frame is made of bytes.
+pub framed-below : (kind : ℕ) (payload : List ℕ) → kind < 256 → length payload < 256 → All (λ b. b < 256) payload → All (λ b. b < 256) (framed kind payload)
+framed-below kind payload k n fit =
+    (k, (n, all-append (λ b. b < 256) payload (check-byte (kind ∷ length payload ∷ payload) ∷ []) fit (omega arith, tt)))

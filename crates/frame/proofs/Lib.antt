@@ -1,4 +1,5 @@
 pub mod Assembly
+pub mod Bytes
 pub mod Decoding
 pub mod Digits
 pub mod Numbers

@@ -5,12 +5,9 @@ use mathlib.Core.List.{List, [], _∷_, _++_}
 use mathlib.Core.Logic.{⊎-elim}
 use Prim.Native.Nat.{ℕ, _+_, _*_, _-_, _/_, _%_, _<_, _≤_}
 use native.Mathlib.Omega.{arith}
-use mir.Syntax.{w8}
-use mir.Val.{Fits}
 use lib.ListN.{length, getD, set, take, drop}
 use Rattle.std.specs.shelf.Lists.{All}
 use Rattle.std.proofs.shelf.Lists.{drop-more, set-at, set-append-right, append-assoc, take-more, length-take-le, length-append}
-use Rattle.std.proofs.shelf.Elements.{all-from-getD}
 use Rattle.std.specs.declared.option.Option.the-variants.{None, Some}
 use Rattle.reading.specs.declared.fault.Fault.the-variants.{Digit}
 use Rattle.frame.specs.Digit.{value-of, digit-of}
@@ -89,10 +86,6 @@ pub two-more : (line : List ℕ) (i : ℕ) → 2 * i + 1 < length line → drop 
 two-more line i h =
     drop-more line (2 * i) 0 (omega arith)
     ∙ ap (λ l. getD line (2 * i) 0 ∷ l) (drop-more line (2 * i + 1) 0 h)
-
--- Bytes that fit.
-pub bytes-fit : (bs : List ℕ) → ((i : ℕ) → Fits w8 (getD bs i 0)) → All (λ b. b < 256) bs
-bytes-fit bs h = all-from-getD (λ b. b < 256) bs 0 (λ i l. h i .fits)
 
 -- Two characters written behind those of the bytes before.
 write-two : (s buffer : List ℕ) (n high low : ℕ) → length s ≡ n → n + 1 < length buffer → set (set (s ++ drop n buffer) n high) (n + 1) low ≡ s ++ high ∷ low ∷ drop (n + 1 + 1) buffer

@@ -1,12 +1,17 @@
 -- A frame as bytes: the kind, the length byte, the payload and the check byte.
-use mathlib.Core.Bool.{Bool, _&&_}
+use mathlib.Core.Bool.{Bool, true, _&&_}
 use mathlib.Core.List.{List, [], _∷_, _++_}
 use mathlib.Core.Path.{_≡_}
 use Prim.Native.Nat.{ℕ, _+_, _-_, _/_, _%_}
-use lib.Dec.{eqb}
+use lib.Dec.{eqb, ltb}
 use lib.ListN.{length, getD, take, drop}
 use Rattle.std.specs.shelf.Digits.{number}
 use Rattle.std.specs.shelf.Lists.{sum}
+
+-- Each number is a byte.
+abbrev pub all-bytes : List ℕ → Bool
+all-bytes [] = true
+all-bytes (b ∷ bs) = ltb b 256 && all-bytes bs
 
 -- The sum of all bytes is a multiple of 256.
 abbrev pub Sealed : List ℕ → Type 0
@@ -26,6 +31,10 @@ kind-of frame = getD frame 0 0
 
 abbrev pub length-byte : List ℕ → ℕ
 length-byte frame = getD frame 1 0
+
+-- The payload: all but the first two bytes and the last.
+abbrev pub payload-of : List ℕ → List ℕ
+payload-of frame = take (length frame - 3) (drop 2 frame)
 
 -- The frame carries n bytes of payload: its length byte says so, and they are present.
 abbrev pub carries : ℕ → List ℕ → Bool

@@ -4,10 +4,11 @@ ghost use mathlib.Core.Bool.{not};
 ghost use Prim.Native.Nat.{_+_, _^_, _<_, _≤_};
 ghost use lib.ListN.{drop, length, getD};
 ghost use Rattle.std.specs.Results.{errPart};
+ghost use Rattle.std.specs.Vec.{made};
 ghost use Rattle.std.specs.shelf.Digits.{number};
 ghost use Rattle.reading.specs.declared.fault.Fault.the-variants.{PayloadLength};
 ghost use Rattle.frame.specs.Held.{held};
-ghost use Rattle.frame.specs.Seal.{kind-of, length-byte, carries, field as number-in};
+ghost use Rattle.frame.specs.Seal.{kind-of, length-byte, payload-of, framed, carries, field as number-in};
 ghost use Rattle.frame.specs.Tests.{when};
 use crate::frame::Frame;
 use reading::Fault;
@@ -61,7 +62,9 @@ impl Frame {
 
     // A refusal, unless the frame carries a payload of this length.
     pub fn expect(&self, payload: u8) -> Result<(), Fault>
-        ensures { λ r. ⌜ errPart r ≡ when (not (carries payload (held (now (self .entry))))) PayloadLength ⌝ }
+        ensures refused { λ r. ⌜ errPart r ≡ when (not (carries payload (held (now (self .entry))))) PayloadLength ⌝ }
+        ensures len { λ r. ⌜ made r (λ _. length (held (now (self .entry))) ≡ payload + 3) ⌝ }
+        ensures whole { λ r. ⌜ made r (λ _. held (now (self .entry)) ≡ framed (kind-of (held (now (self .entry)))) (payload-of (held (now (self .entry))))) ⌝ }
     {
         let parts = self.parts();
         if parts.length == payload && parts.rest.len() == payload as usize + 1 {

@@ -1,14 +1,12 @@
 // Making a frame, and writing it as a line.
 ghost use mathlib.Core.Path.{_≡_};
-ghost use mathlib.Core.List.{[], _∷_};
 ghost use Prim.Native.Nat.{_+_, _*_, _<_, _≤_};
 ghost use lib.ListN.{length, take};
 ghost use Rattle.std.specs.Vec.{made};
-ghost use Rattle.std.specs.declared.option.Option.the-variants.{None};
 ghost use Rattle.frame.specs.Held.{held};
-ghost use Rattle.frame.specs.Line.{spelled, bytes-of};
-ghost use Rattle.frame.specs.Seal.{check-byte, framed};
-ghost use Rattle.frame.specs.Tests.{digit-test, Reads-back};
+ghost use Rattle.frame.specs.Line.{spelled};
+ghost use Rattle.frame.specs.Seal.{framed};
+ghost use Rattle.frame.specs.Tests.{Reads-back};
 ghost use Rattle.frame.specs.Written.{fronted, Written};
 use crate::digit::digit_of;
 use crate::frame::Frame;
@@ -58,9 +56,7 @@ fn put_frame(kind: u8, payload: &[u8], bytes: &mut [u8])
 // Writes some bytes as digits at the front of a buffer.
 fn spell(bytes: &[u8], buffer: &mut [u8])
     requires { ⌜ 2 * length (now bytes) ≤ length (now buffer) ⌝ }
-    ensures after { λ _. ⌜ now (buffer .exit) ≡ fronted (spelled (now (bytes .entry))) (now (buffer .entry)) ⌝ }
-    ensures same { λ _. ⌜ bytes-of (spelled (now (bytes .entry))) ≡ now (bytes .entry) ⌝ }
-    ensures digits { λ _. ⌜ digit-test (spelled (now (bytes .entry))) ≡ None ⌝ }
+    ensures { λ _. ⌜ now (buffer .exit) ≡ fronted (spelled (now (bytes .entry))) (now (buffer .entry)) ⌝ }
 {
     for (i, b) in bytes.iter().enumerate() {
         buffer[2 * i] = digit_of(*b / 16);

@@ -4,7 +4,7 @@ use lib.ListN.{set}
 use Rattle.std.proofs.shelf.Lists.{take-all}
 use Rattle.frame.specs.Line.{spelled}
 use Rattle.frame.specs.Written.{fronted}
-use Rattle.frame.proofs.Spelling.{spell-more, bytes-fit, bytes-spelled, digits-spelled}
+use Rattle.frame.proofs.Spelling.{spell-more}
 use Rattle.frame.proofs.frame.write.spell.Needs as need
 
 pub loop-i-again : need.loop-i-again
@@ -16,8 +16,4 @@ loop-i-again c =
 pub returns : need.returns
 returns c =
     let all = take-all (c .loop-i .i) (c .args .bytes .now) (c .loop-i-test .left) in
-    let fit = bytes-fit (c .args .bytes .now) (c .typed .bytes) in
-    record
-      { after = c .loop-i .inv ∙ ap (λ bs. fronted (spelled bs) (c .args .buffer .now)) all
-      ; same = bytes-spelled (c .args .bytes .now) fit
-      ; digits = digits-spelled 1 (c .args .bytes .now) fit }
+    c .loop-i .inv ∙ ap (λ bs. fronted (spelled bs) (c .args .buffer .now)) all
