@@ -2,6 +2,7 @@ pub mod Assembly
 pub mod Bytes
 pub mod Decoding
 pub mod Digits
+pub mod Firsts
 pub mod Numbers
 pub mod Spelling
 pub mod Sums

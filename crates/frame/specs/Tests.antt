@@ -70,3 +70,8 @@ frame-tests served frame = kind-test served frame ∷ payload-test served frame 
 pub record Reads-back (frame : List ℕ) : Type 0 where
   pub accepted : first (line-tests (spelled frame)) ≡ None
   pub same : bytes-of (spelled frame) ≡ frame
+
+-- The tests of a call, in order: 2 to 4 of the line, 5 and 6 of its frame, and then those of the frame's fields.
+abbrev pub call-tests : (ℕ → Option ℕ) → (List ℕ → List (Option Fault)) → List ℕ → List (Option Fault)
+call-tests served fields line =
+    line-tests line ++ (kind-test served (bytes-of line) ∷ payload-test served (bytes-of line) ∷ fields (bytes-of line))

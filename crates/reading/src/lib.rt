@@ -3,6 +3,7 @@ mod demand;
 mod entry;
 mod fault;
 mod reading;
+mod site_month;
 
 pub use demand::load_size;
 pub use demand::nearest_kw;
@@ -10,3 +11,7 @@ pub use entry::Entry;
 pub use fault::Fault;
 pub use fault::Layer;
 pub use reading::Reading;
+pub use site_month::SiteMonth;
+
+// How many lines a statement has, numbered from 0.
+pub const LINES: usize = 13;

@@ -1,0 +1,4 @@
+pub mod Kinds
+pub mod Fields
+pub mod Asked
+pub mod Tests
