@@ -32,19 +32,17 @@ front-more body bs n b len room =
     ∙ ap (λ m. (body ++ b ∷ []) ++ drop m bs) (sym longer)
 
 -- The check byte behind the body completes the frame.
-pub frame-front : (bs front payload : List ℕ) (kind n total : ℕ) → length payload ≡ n → n + 2 < length bs → front ≡ (kind ∷ n ∷ payload) ++ drop (n + 2) bs → total ≡ sum (take (n + 2 - 0) front) % 256 → take (n + 3) (set front (n + 2) ((0 + (256 - total)) % 256)) ≡ (kind ∷ n ∷ payload) ++ check-byte (kind ∷ n ∷ payload) ∷ []
-frame-front bs front payload kind n total len room is sums =
+pub frame-front : (bs front payload : List ℕ) (kind n check : ℕ) → length payload ≡ n → n + 2 < length bs → front ≡ (kind ∷ n ∷ payload) ++ drop (n + 2) bs → check ≡ check-byte (take (n + 2 - 0) front) → take (n + 3) (set front (n + 2) check) ≡ (kind ∷ n ∷ payload) ++ check-byte (kind ∷ n ∷ payload) ∷ []
+frame-front bs front payload kind n check len room is seals =
     let body = kind ∷ n ∷ payload in
-    let check = (0 + (256 - total)) % 256 in
     let long : length body ≡ n + 2 = omega arith in
     let longer : length (body ++ check ∷ []) ≡ n + 3 = omega (arith, length-append payload (check ∷ [])) in
     let all : n + 2 - 0 ≡ n + 2 = omega arith in
     let whole : take (n + 2 - 0) front ≡ body = ap (λ m. take m front) all ∙ ap (take (n + 2)) is ∙ take-at body (drop (n + 2) bs) (n + 2) long in
-    let seal : check ≡ check-byte body = omega (arith, sums ∙ ap (λ l. sum l % 256) whole) in
     ap (λ l. take (n + 3) (set l (n + 2) check)) is
     ∙ ap (take (n + 3)) (front-more body bs (n + 2) check long room)
     ∙ take-at (body ++ check ∷ []) (drop (length (body ++ check ∷ [])) bs) (n + 3) longer
-    ∙ ap (λ b. body ++ b ∷ []) seal
+    ∙ ap (λ b. body ++ b ∷ []) (seals ∙ ap check-byte whole)
 
 pub sealed-framed : (kind : ℕ) (payload : List ℕ) → Sealed (framed kind payload)
 sealed-framed kind payload = sealed (kind ∷ length payload ∷ payload)

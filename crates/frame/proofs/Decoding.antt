@@ -19,7 +19,6 @@ use Rattle.frame.proofs.Spelling.{two-more}
 abbrev pub Passed : List ℕ → ℕ → Type 0
 Passed line i = digits-from (2 * i + 1) (drop (2 * i) line) ≡ digit-test line
 
-
 module _ (line : List ℕ) (i : ℕ) (more : 2 * i + 1 < length line) (passed : Passed line i) where
   here : digits-from (2 * i + 1) (getD line (2 * i) 0 ∷ getD line (2 * i + 1) 0 ∷ drop (2 * i + 1 + 1) line) ≡ digit-test line
   here = ap (digits-from (2 * i + 1)) (sym (two-more line i more)) ∙ passed

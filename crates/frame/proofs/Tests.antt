@@ -43,7 +43,8 @@ pub reads-back : (frame : List ℕ) → 3 ≤ length frame → length frame ≤ 
 reads-back frame least most fit checked =
     let below = below-each frame fit in
     let same = bytes-spelled frame below in
-    record
-      { accepted =
-          rw (length-spelled frame, length-fits (length frame) least most, digits-spelled 1 frame below, same, sum-passes frame checked)
-      ; same = same }
+    record {
+      accepted =
+          rw (length-spelled frame, length-fits (length frame) least most, digits-spelled 1 frame below, same, sum-passes frame checked);
+      same = same;
+    }

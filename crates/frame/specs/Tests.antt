@@ -62,10 +62,6 @@ payload-test served frame =
 abbrev pub line-tests : List ℕ → List (Option Fault)
 line-tests line = length-test line ∷ digit-test line ∷ sum-test (bytes-of line) ∷ []
 
--- 5 and 6, of a frame.
-abbrev pub frame-tests : (ℕ → Option ℕ) → List ℕ → List (Option Fault)
-frame-tests served frame = kind-test served frame ∷ payload-test served frame ∷ []
-
 -- The line of a frame passes every test of a line, and its bytes are the frame's.
 pub record Reads-back (frame : List ℕ) : Type 0 where
   pub accepted : first (line-tests (spelled frame)) ≡ None

@@ -2,7 +2,7 @@
 use mathlib.Core.Bool.{cond}
 use mathlib.Core.List.{List, _++_}
 use mathlib.Core.Path.{_≡_}
-use Prim.Native.Nat.{ℕ}
+use Prim.Native.Nat.{ℕ, _≤_}
 use lib.ListN.{length, drop}
 use Rattle.std.specs.Results.{errPart, isOk}
 use Rattle.std.specs.Vec.{made}
@@ -18,4 +18,5 @@ fronted line buffer = line ++ drop (length line) buffer
 pub record Written (line before after : List ℕ) (answer : Result ℕ Fault) : Type 0 where
   pub refused : errPart answer ≡ buffer-test (length before)
   pub count : made answer (λ n. n ≡ length line)
+  pub bound : made answer (λ n. n ≤ 128)
   pub kept : after ≡ cond (isOk answer) (fronted line before) before

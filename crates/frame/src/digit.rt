@@ -19,5 +19,9 @@ pub(crate) fn digit_of(value: u8) -> u8
     requires { ⌜ value < 16 ⌝ }
     ensures { λ r. ⌜ r ≡ digit-of value ⌝ }
 {
-    if value < 10 { b'0' + value } else { b'A' + (value - 10) }
+    if value < 10 {
+        b'0' + value
+    } else {
+        b'A' + (value - 10)
+    }
 }

@@ -24,10 +24,11 @@ pub record Values : Type 0 where
 
 abbrev pub values-in : List ℕ → Values
 values-in frame =
-    record
-      { cap = field frame 3 4
-      ; supply = map (λ i. field frame (7 + 4 * i) 2) (counting 0 7)
-      ; low-income = map (λ i. field frame (9 + 4 * i) 2) (counting 0 7) }
+    record {
+      cap = field frame 3 4;
+      supply = map (λ i. field frame (7 + 4 * i) 2) (counting 0 7);
+      low-income = map (λ i. field frame (9 + 4 * i) 2) (counting 0 7);
+    }
 
 -- 7: the cap is above 99,999,999.
 abbrev pub cap-test : List ℕ → Option Fault

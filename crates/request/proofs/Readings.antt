@@ -41,14 +41,15 @@ pub record Within (frame : List ℕ) : Type 0 where
 pub within : (frame : List ℕ) → None ≡ limit-test reading-limits frame → Within frame
 within frame h =
     let a = all-within reading-limits frame (sym h) in
-    record
-      { flags = a .1 .0
-      ; kwh = a .1 .1 .0
-      ; demand = a .1 .1 .1 .0
-      ; peak = a .1 .1 .1 .1 .0
-      ; kvar = a .1 .1 .1 .1 .1 .0
-      ; factor = a .1 .1 .1 .1 .1 .1 .0
-      ; earlier = a .1 .1 .1 .1 .1 .1 .1 }
+    record {
+      flags = a .1 .0;
+      kwh = a .1 .1 .0;
+      demand = a .1 .1 .1 .0;
+      peak = a .1 .1 .1 .1 .0;
+      kvar = a .1 .1 .1 .1 .1 .0;
+      factor = a .1 .1 .1 .1 .1 .1 .0;
+      earlier = a .1 .1 .1 .1 .1 .1 .1;
+    }
 
 kw-bound : (tenths : ℕ) → tenths ≤ 99999 → kw-nearest tenths ≤ 10000
 kw-bound tenths h = grind (arith, tells)

@@ -26,17 +26,18 @@ earlier-in frame = map (λ i. field frame (33 + 2 * i) 2) (counting 0 11)
 -- The reading of post and correct.
 abbrev pub entry-in : List ℕ → Entry
 entry-in frame =
-    record
-      { meter = meter-in frame
-      ; schedule = field frame 11 2
-      ; flags = field frame 13 1
-      ; «power_factor» = field frame 32 1
-      ; kwh = field frame 14 4
-      ; «off_hours» = field frame 18 4
-      ; demand = field frame 22 4
-      ; «peak_demand» = field frame 26 4
-      ; kvar = field frame 30 2
-      ; load = load-of (kw-nearest (field frame 22 4) ∷ earlier-in frame) }
+    record {
+      meter = meter-in frame;
+      schedule = field frame 11 2;
+      flags = field frame 13 1;
+      «power_factor» = field frame 32 1;
+      kwh = field frame 14 4;
+      «off_hours» = field frame 18 4;
+      demand = field frame 22 4;
+      «peak_demand» = field frame 26 4;
+      kvar = field frame 30 2;
+      load = load-of (kw-nearest (field frame 22 4) ∷ earlier-in frame);
+    }
 
 -- A field of the given first byte and width, with the most that it may hold.
 abbrev pub limit : ℕ → ℕ → ℕ → Limit

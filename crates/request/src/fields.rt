@@ -21,39 +21,106 @@ use reading::load_size;
 use reading::nearest_kw;
 
 const SITE: Field = Field { byte: 3, width: 4 };
+
 const MONTH: Field = Field { byte: 7, width: 2 };
+
 const METER: Field = Field { byte: 9, width: 2 };
+
 const SCHEDULE: Field = Field { byte: 11, width: 2 };
+
 const FLAGS: Field = Field { byte: 13, width: 1 };
+
 const KWH: Field = Field { byte: 14, width: 4 };
+
 const OFF_HOURS: Field = Field { byte: 18, width: 4 };
+
 const DEMAND: Field = Field { byte: 22, width: 4 };
+
 const PEAK_DEMAND: Field = Field { byte: 26, width: 4 };
+
 const KVAR: Field = Field { byte: 30, width: 2 };
+
 const POWER_FACTOR: Field = Field { byte: 32, width: 1 };
 
-pub(crate) const MONTH_LIMITS: [Limit; 1] = [Limit { field: MONTH, most: 2_399 }];
+pub(crate) const MONTH_LIMITS: [Limit; 1] = [Limit {
+    field: MONTH,
+    most: 2_399,
+}];
 
 // In the order of their bytes.
 const READING_LIMITS: [Limit; 18] = [
-    Limit { field: MONTH, most: 2_399 },
-    Limit { field: FLAGS, most: 15 },
-    Limit { field: KWH, most: 999_999 },
-    Limit { field: DEMAND, most: 99_999 },
-    Limit { field: PEAK_DEMAND, most: 99_999 },
-    Limit { field: KVAR, most: 9_999 },
-    Limit { field: POWER_FACTOR, most: 100 },
-    Limit { field: Field { byte: 33, width: 2 }, most: 9_999 },
-    Limit { field: Field { byte: 35, width: 2 }, most: 9_999 },
-    Limit { field: Field { byte: 37, width: 2 }, most: 9_999 },
-    Limit { field: Field { byte: 39, width: 2 }, most: 9_999 },
-    Limit { field: Field { byte: 41, width: 2 }, most: 9_999 },
-    Limit { field: Field { byte: 43, width: 2 }, most: 9_999 },
-    Limit { field: Field { byte: 45, width: 2 }, most: 9_999 },
-    Limit { field: Field { byte: 47, width: 2 }, most: 9_999 },
-    Limit { field: Field { byte: 49, width: 2 }, most: 9_999 },
-    Limit { field: Field { byte: 51, width: 2 }, most: 9_999 },
-    Limit { field: Field { byte: 53, width: 2 }, most: 9_999 },
+    Limit {
+        field: MONTH,
+        most: 2_399,
+    },
+    Limit {
+        field: FLAGS,
+        most: 15,
+    },
+    Limit {
+        field: KWH,
+        most: 999_999,
+    },
+    Limit {
+        field: DEMAND,
+        most: 99_999,
+    },
+    Limit {
+        field: PEAK_DEMAND,
+        most: 99_999,
+    },
+    Limit {
+        field: KVAR,
+        most: 9_999,
+    },
+    Limit {
+        field: POWER_FACTOR,
+        most: 100,
+    },
+    Limit {
+        field: Field { byte: 33, width: 2 },
+        most: 9_999,
+    },
+    Limit {
+        field: Field { byte: 35, width: 2 },
+        most: 9_999,
+    },
+    Limit {
+        field: Field { byte: 37, width: 2 },
+        most: 9_999,
+    },
+    Limit {
+        field: Field { byte: 39, width: 2 },
+        most: 9_999,
+    },
+    Limit {
+        field: Field { byte: 41, width: 2 },
+        most: 9_999,
+    },
+    Limit {
+        field: Field { byte: 43, width: 2 },
+        most: 9_999,
+    },
+    Limit {
+        field: Field { byte: 45, width: 2 },
+        most: 9_999,
+    },
+    Limit {
+        field: Field { byte: 47, width: 2 },
+        most: 9_999,
+    },
+    Limit {
+        field: Field { byte: 49, width: 2 },
+        most: 9_999,
+    },
+    Limit {
+        field: Field { byte: 51, width: 2 },
+        most: 9_999,
+    },
+    Limit {
+        field: Field { byte: 53, width: 2 },
+        most: 9_999,
+    },
 ];
 
 // The site and the month.

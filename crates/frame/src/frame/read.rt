@@ -26,7 +26,9 @@ fn digit_at(line: &[u8], at: usize) -> Result<u8, Fault>
 {
     match value_of(line[at]) {
         Some(value) => Ok(value),
-        None => Err(Fault::Digit { column: (at + 1) as u16 }),
+        None => Err(Fault::Digit {
+            column: (at + 1) as u16,
+        }),
     }
 }
 

@@ -5,7 +5,7 @@ ghost use lib.ListN.{length, take};
 ghost use Rattle.std.specs.Vec.{made};
 ghost use Rattle.frame.specs.Held.{held};
 ghost use Rattle.frame.specs.Line.{spelled};
-ghost use Rattle.frame.specs.Seal.{framed};
+ghost use Rattle.frame.specs.Seal.{check-byte, framed};
 ghost use Rattle.frame.specs.Tests.{Reads-back};
 ghost use Rattle.frame.specs.Written.{fronted, Written};
 use crate::digit::digit_of;
@@ -50,7 +50,14 @@ fn put_frame(kind: u8, payload: &[u8], bytes: &mut [u8])
     bytes[0] = kind;
     bytes[1] = payload.len() as u8;
     bytes[2..body].copy_from_slice(payload);
-    bytes[body] = 0u8.wrapping_sub(sum_of(&bytes[0..body]));
+    bytes[body] = check_of(&bytes[0..body]);
+}
+
+// The check byte that belongs behind some bytes.
+fn check_of(body: &[u8]) -> u8
+    ensures { λ r. ⌜ r ≡ check-byte (now (body .entry)) ⌝ }
+{
+    0u8.wrapping_sub(sum_of(body))
 }
 
 // Writes some bytes as digits at the front of a buffer.

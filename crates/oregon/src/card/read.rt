@@ -28,6 +28,7 @@ pub struct CardReply {
 }
 
 const KIND: u8 = 0x10;
+
 const CAP: Field = Field { byte: 3, width: 4 };
 
 // Answers a card line in a buffer of at least 128 bytes, and gives the card where the line is accepted.

@@ -21,15 +21,17 @@ entry-entry-requires c κs = (c .pre, within (held (c .args .frame .now)) (c .in
 
 pub returns-then-entry : need.returns-then-entry
 returns-then-entry c =
-    record
-      { refused = off-hours-exceed (held (c .args .frame .now)) (c .entry-entry .result) (c .entry-entry .ensures) (c .in-Continue-check-limits .ensures tt) (c .if-entry .taken)
-      ; value = tt }
+    record {
+      refused = off-hours-exceed (held (c .args .frame .now)) (c .entry-entry .result) (c .entry-entry .ensures) (c .in-Continue-check-limits .ensures tt) (c .if-entry .taken);
+      value = tt;
+    }
 
 pub returns-then-entry-2 : need.returns-then-entry-2
 returns-then-entry-2 c =
-    record
-      { refused = peak-exceeds (held (c .args .frame .now)) (c .entry-entry .result) (c .entry-entry .ensures) (c .in-Continue-check-limits .ensures tt) (c .if-entry .left) (c .if-entry-2 .taken)
-      ; value = tt }
+    record {
+      refused = peak-exceeds (held (c .args .frame .now)) (c .entry-entry .result) (c .entry-entry .ensures) (c .in-Continue-check-limits .ensures tt) (c .if-entry .left) (c .if-entry-2 .taken);
+      value = tt;
+    }
 
 pub unreachable-requires : need.unreachable-requires
 unreachable-requires c κs =
@@ -38,6 +40,7 @@ unreachable-requires c κs =
 
 pub returns : need.returns
 returns c =
-    record
-      { refused = nothing-exceeds (held (c .args .frame .now)) (c .entry-entry .result) (c .entry-entry .ensures) (c .in-Continue-check-limits .ensures tt) (c .if-entry .left) (c .if-entry-2 .left)
-      ; value = c .in-Some .ensures tt .cases ∙ c .entry-entry .ensures }
+    record {
+      refused = nothing-exceeds (held (c .args .frame .now)) (c .entry-entry .result) (c .entry-entry .ensures) (c .in-Continue-check-limits .ensures tt) (c .if-entry .left) (c .if-entry-2 .left);
+      value = c .in-Some .ensures tt .cases ∙ c .entry-entry .ensures;
+    }

@@ -16,7 +16,8 @@ returns-then-parts-payload-2 c =
     let present : length frame ≡ c .args .payload + 3 = omega arith in
     let least : 3 ≤ length frame = omega arith in
     let counts : length-byte frame ≡ length frame - 3 = omega arith in
-    record
-      { refused = carried frame (c .args .payload) says present
-      ; len = present
-      ; whole = whole frame least (below-each frame (c .args .self .now .fit)) (c .args .self .now .checked) counts }
+    record {
+      refused = carried frame (c .args .payload) says present;
+      len = present;
+      whole = whole frame least (below-each frame (c .args .self .now .fit)) (c .args .self .now .checked) counts;
+    }

@@ -33,7 +33,8 @@ returns c =
     let digits = c .in-Continue-decode .ensures tt .refused in
     let even : length line % 2 ≡ 0 = omega arith in
     let part = sealed-part (c .decode .last .bytes) (length line / 2) (c .sum-of .result) (c .sum-of .ensures) (c .if-sum-of-ne0 .left) in
-    record
-      { refused = accepted line even (omega arith) (omega arith) digits (subst Sealed held part)
-      ; value = held
-      ; spelling = sym (spelled-bytes 1 line (sym digits) even) ∙ ap spelled (sym held) }
+    record {
+      refused = accepted line even (omega arith) (omega arith) digits (subst Sealed held part);
+      value = held;
+      spelling = sym (spelled-bytes 1 line (sym digits) even) ∙ ap spelled (sym held);
+    }

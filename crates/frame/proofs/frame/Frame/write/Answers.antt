@@ -11,9 +11,10 @@ use Rattle.frame.proofs.frame.Frame.write.Needs as need
 
 pub returns-then-buffer-lt128 : need.returns-then-buffer-lt128
 returns-then-buffer-lt128 c =
-    record
-      { written = record { refused = buffer-short (length (c .args .buffer .now)) (c .if-buffer-lt128 .taken); count = tt; kept = refl }
-      ; reads-back = tt }
+    record {
+      written = record { refused = buffer-short (length (c .args .buffer .now)) (c .if-buffer-lt128 .taken); count = tt; bound = tt; kept = refl };
+      reads-back = tt;
+    }
 
 pub returns : need.returns
 returns c =
@@ -22,10 +23,13 @@ returns c =
     let len = ap length (sym is) ∙ c .bytes-bytes .ensures .len in
     let frame = c .args .self .now in
     let back : Reads-back (held frame) = reads-back (held frame) (omega (arith, len)) (omega (arith, len)) (frame .fit) (frame .checked) in
-    record
-      { written =
-          record
-            { refused = buffer-room (length (c .args .buffer .now)) (c .if-buffer-lt128 .left)
-            ; count = sym (length-spelled bytes) ∙ ap (λ l. length (spelled l)) is
-            ; kept = c .spell .ensures ∙ ap (λ l. fronted (spelled l) (c .args .buffer .now)) is }
-      ; reads-back = back }
+    record {
+      written =
+          record {
+            refused = buffer-room (length (c .args .buffer .now)) (c .if-buffer-lt128 .left);
+            count = sym (length-spelled bytes) ∙ ap (λ l. length (spelled l)) is;
+            bound = omega arith;
+            kept = c .spell .ensures ∙ ap (λ l. fronted (spelled l) (c .args .buffer .now)) is;
+          };
+      reads-back = back;
+    }

@@ -28,16 +28,18 @@ loop-i-again c =
     let more : 2 * i + 1 < length line = omega arith in
     let room : i < length (c .loop-i .bytes) = omega (arith, c .loop-i .inv .2, c .pre) in
     let high = c .in-Continue-high .ensures tt .value in
-    let low = c .in-Continue-low .ensures tt .value in
-    ( both-pass line i more (c .loop-i .inv .0) _ _ high low
-    , byte-more line i more (c .loop-i .inv .0) (c .loop-i .bytes) _ _ high low room (c .loop-i .inv .1)
-    , length-set (c .loop-i .bytes) i _ ∙ c .loop-i .inv .2 )
+    let low = c .in-Continue-low .ensures tt .value in (
+      both-pass line i more (c .loop-i .inv .0) _ _ high low,
+      byte-more line i more (c .loop-i .inv .0) (c .loop-i .bytes) _ _ high low room (c .loop-i .inv .1),
+      length-set (c .loop-i .bytes) i _ ∙ c .loop-i .inv .2,
+    )
 
 pub returns : need.returns
 returns c =
     let line = c .args .line .now in
     let end : length line ≤ 2 * c .loop-i .i = omega arith in
     let half : c .loop-i .i ≡ length line / 2 = omega arith in
-    record
-      { refused = all-pass line (c .loop-i .i) end (c .loop-i .inv .0)
-      ; value = subst (λ n. take n (c .loop-i .bytes) ≡ bytes-of line) half (all-bytes line (c .loop-i .bytes) (c .loop-i .i) end (c .loop-i .inv .1)) }
+    record {
+      refused = all-pass line (c .loop-i .i) end (c .loop-i .inv .0);
+      value = subst (λ n. take n (c .loop-i .bytes) ≡ bytes-of line) half (all-bytes line (c .loop-i .bytes) (c .loop-i .i) end (c .loop-i .inv .1));
+    }

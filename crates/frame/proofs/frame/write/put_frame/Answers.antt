@@ -13,6 +13,6 @@ returns c =
     let payload = c .args .payload .now in
     let n = length payload in
     let front : putMid 2 (n + 2 - 2) (set (set bs 0 (c .args .kind)) 1 n) (c .copy-from-slice .last .self) ≡ (c .args .kind ∷ n ∷ payload) ++ drop (n + 2) bs =
-        ap (putMid 2 (n + 2 - 2) (set (set bs 0 (c .args .kind)) 1 n)) (c .copy-from-slice .ensures .after)
-        ∙ body-front bs payload (c .args .kind) n refl (omega arith) in
-    frame-front bs _ payload (c .args .kind) n (c .sum-of .result) refl (omega arith) front (c .sum-of .ensures)
+    ap (putMid 2 (n + 2 - 2) (set (set bs 0 (c .args .kind)) 1 n)) (c .copy-from-slice .ensures .after)
+    ∙ body-front bs payload (c .args .kind) n refl (omega arith) in
+    frame-front bs _ payload (c .args .kind) n (c .check-of .result) refl (omega arith) front (c .check-of .ensures)

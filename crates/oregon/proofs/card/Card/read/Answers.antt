@@ -16,11 +16,12 @@ pub returns-then-kind-ne-KIND : need.returns-then-kind-ne-KIND
 returns-then-kind-ne-KIND c =
     let f = held (c .in-Continue-frame .frame) in
     let read = c .in-Continue-frame .ensures tt in
-    record
-      { refused =
+    record {
+      refused =
           kind-stops card-length card-field-tests (c .args .line .now) f (read .value) (read .refused) _
-          (no-card (c .kind .result) f (c .kind .ensures) (c .if-kind-ne-KIND .taken))
-      ; value = tt }
+          (no-card (c .kind .result) f (c .kind .ensures) (c .if-kind-ne-KIND .taken));
+      value = tt;
+    }
 
 pub returns-in-Break-expect : need.returns-in-Break-expect
 returns-in-Break-expect c =
@@ -28,30 +29,33 @@ returns-in-Break-expect c =
     let f = held (c .in-Continue-frame .frame) in
     let read = c .in-Continue-frame .ensures tt in
     rw (p .1, p .2)
-    record
-      { refused =
+    record {
+      refused =
           payload-stops card-length card-field-tests (c .args .line .now) f (read .value) (read .refused) 32
-          (card-named (c .kind .result) f (c .kind .ensures) (c .if-kind-ne-KIND .left)) _ (c .in-Break-expect .ensures tt .refused)
-      ; value = tt }
+          (card-named (c .kind .result) f (c .kind .ensures) (c .if-kind-ne-KIND .left)) _ (c .in-Break-expect .ensures tt .refused);
+      value = tt;
+    }
 
 pub returns-then-cap-gt99999999 : need.returns-then-cap-gt99999999
 returns-then-cap-gt99999999 c =
     let f = held (c .in-Continue-frame .frame) in
     let read = c .in-Continue-frame .ensures tt in
-    record
-      { refused =
+    record {
+      refused =
           fields-decide card-length card-field-tests (c .args .line .now) f (read .value) (read .refused) 32
           (card-named (c .kind .result) f (c .kind .ensures) (c .if-kind-ne-KIND .left)) _ (c .in-Continue-expect .ensures tt .refused)
-          (cap-stops (c .number-cap .result) f (c .number-cap .ensures .value) (c .if-cap-gt99999999 .taken))
-      ; value = tt }
+          (cap-stops (c .number-cap .result) f (c .number-cap .ensures .value) (c .if-cap-gt99999999 .taken));
+      value = tt;
+    }
 
 pub returns : need.returns
 returns c =
     let f = held (c .in-Continue-frame .frame) in
     let read = c .in-Continue-frame .ensures tt in
-    record
-      { refused =
+    record {
+      refused =
           fields-decide card-length card-field-tests (c .args .line .now) f (read .value) (read .refused) 32
           (card-named (c .kind .result) f (c .kind .ensures) (c .if-kind-ne-KIND .left)) _ (c .in-Continue-expect .ensures tt .refused)
-          (cap-passes (c .number-cap .result) f (c .number-cap .ensures .value) (c .if-cap-gt99999999 .left))
-      ; value = same-values _ _ _ _ _ _ (c .number-cap .ensures .value) (c .rates .ensures) (c .rates-2 .ensures) ∙ ap values-in (read .value) }
+          (cap-passes (c .number-cap .result) f (c .number-cap .ensures .value) (c .if-cap-gt99999999 .left));
+      value = same-values _ _ _ _ _ _ (c .number-cap .ensures .value) (c .rates .ensures) (c .rates-2 .ensures) ∙ ap values-in (read .value);
+    }

@@ -11,9 +11,10 @@ use Rattle.oregon.proofs.card.read.rates.Needs as need
 pub loop-i-again : need.loop-i-again
 loop-i-again c =
     let f = λ (i : ℕ). field (held (c .args .frame .now)) (c .args .first + 4 * i) 2 in
-    let room : c .loop-i .i < length (c .loop-i .rates) = omega (arith, c .loop-i .inv .1) in
-    ( (λ k below. ap (λ v. getD (set (c .loop-i .rates) (c .loop-i .i) v) k 0) (c .number .ensures .value) ∙ fill-by-more f (c .loop-i .rates) (c .loop-i .i) 0 room (c .loop-i .inv .0) k below)
-    , length-set (c .loop-i .rates) (c .loop-i .i) (c .number .result) ∙ c .loop-i .inv .1 )
+    let room : c .loop-i .i < length (c .loop-i .rates) = omega (arith, c .loop-i .inv .1) in (
+      (λ k below. ap (λ v. getD (set (c .loop-i .rates) (c .loop-i .i) v) k 0) (c .number .ensures .value) ∙ fill-by-more f (c .loop-i .rates) (c .loop-i .i) 0 room (c .loop-i .inv .0) k below),
+      length-set (c .loop-i .rates) (c .loop-i .i) (c .number .result) ∙ c .loop-i .inv .1,
+    )
 
 pub returns : need.returns
 returns c =

@@ -9,8 +9,9 @@ use Rattle.oregon.proofs.card.read.take_card.Needs as need
 pub returns-in-Continue-write : need.returns-in-Continue-write
 returns-in-Continue-write c =
     let fine = c .in-Ok .ensures tt .refused in
-    record
-      { written =
+    record {
+      written =
           subst (λ line. Written line (c .args .answer .now) (c .write .last .buffer) (Ok (c .in-Continue-write .field-0))) (ap reply-line fine)
-          (c .in-Continue-write .ensures tt .written)
-      ; card = ap Some (c .in-Ok .ensures tt .value) ∙ ap (λ test. given test (bytes-of (c .args .line .now))) fine }
+          (c .in-Continue-write .ensures tt .written);
+      card = ap Some (c .in-Ok .ensures tt .value) ∙ ap (λ test. given test (bytes-of (c .args .line .now))) fine;
+    }

@@ -21,17 +21,19 @@ returns-in-Break-reading-2 c =
 pub returns-in-Continue-reading : need.returns-in-Continue-reading
 returns-in-Continue-reading c =
     let frame = held (c .args .frame .now) in
-    record
-      { refused = reading-tested (c .args .kind) Post frame _ (c .in-Post .is) refl (c .in-Continue-reading .ensures tt .refused)
-      ; value =
+    record {
+      refused = reading-tested (c .args .kind) Post frame _ (c .in-Post .is) refl (c .in-Continue-reading .ensures tt .refused);
+      value =
           subst (λ k. post (c .site-month-at .result) (c .in-Continue-reading .field-0 .entry) ≡ asked-in k frame) (sym (c .in-Post .is))
-          (ap₂ post (c .site-month-at .ensures) (c .in-Continue-reading .ensures tt .value)) }
+          (ap₂ post (c .site-month-at .ensures) (c .in-Continue-reading .ensures tt .value));
+    }
 
 pub returns-in-Continue-reading-2 : need.returns-in-Continue-reading-2
 returns-in-Continue-reading-2 c =
     let frame = held (c .args .frame .now) in
-    record
-      { refused = reading-tested (c .args .kind) Correct frame _ (c .in-Correct .is) refl (c .in-Continue-reading-2 .ensures tt .refused)
-      ; value =
+    record {
+      refused = reading-tested (c .args .kind) Correct frame _ (c .in-Correct .is) refl (c .in-Continue-reading-2 .ensures tt .refused);
+      value =
           subst (λ k. correct (c .site-month-at .result) (c .in-Continue-reading-2 .field-0 .entry) ≡ asked-in k frame) (sym (c .in-Correct .is))
-          (ap₂ correct (c .site-month-at .ensures) (c .in-Continue-reading-2 .ensures tt .value)) }
+          (ap₂ correct (c .site-month-at .ensures) (c .in-Continue-reading-2 .ensures tt .value));
+    }

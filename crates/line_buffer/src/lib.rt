@@ -1,0 +1,4 @@
+// A line as it arrives, in a bounded amount of memory.
+mod buffer;
+
+pub use buffer::LineBuffer;
