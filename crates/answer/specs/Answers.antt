@@ -8,6 +8,7 @@ use mir.Syntax.{w32}
 use mir.Val.{SFits}
 use Rattle.std.specs.declared.option.Option.the-variants.{None, Some}
 use Rattle.std.specs.shelf.Lists.{All}
+use Rattle.reading.specs.Statement.{lines}
 use Rattle.reading.specs.Refusal.{number-of, layer-of, layer-number, place-of}
 use Rattle.frame.specs.Line.{spelled, bytes-of}
 use Rattle.frame.specs.Seal.{framed, kind-of, two-bytes}
@@ -35,6 +36,6 @@ pub record Read-back (kind : AmountsKind) (amounts : List ℤ) : Type 0 where
   pub same-kind : amounts-kind (kind-of (bytes-of (answer-line (Amounts kind amounts)))) ≡ Some kind
   pub same : amounts-on (answer-line (Amounts kind amounts)) ≡ amounts
 
--- So it is of every thirteen amounts of 32 bits.
+-- So it is of every amounts of 32 bits, one for each statement line.
 abbrev pub Amounts-read-back : Type 0
-Amounts-read-back = (kind : AmountsKind) (amounts : List ℤ) → length amounts ≡ 13 → All (SFits w32) amounts → Read-back kind amounts
+Amounts-read-back = (kind : AmountsKind) (amounts : List ℤ) → length amounts ≡ lines → All (SFits w32) amounts → Read-back kind amounts

@@ -19,6 +19,9 @@ use frame::Frame;
 use reading::Fault;
 use reading::LINES;
 
+// How many bytes the amounts take.
+pub(crate) const PAYLOAD: usize = 4 * LINES;
+
 // Reads an answer line of amounts: its kind, with the amounts put into the caller's place. A refused line leaves the place as it was.
 pub fn read_amounts(line: &[u8], amounts: &mut [i32; LINES]) -> Result<AmountsKind, Fault>
     ensures refused { λ r. ⌜ errPart r ≡ first (amounts-tests (now (line .entry))) ⌝ }
@@ -28,12 +31,12 @@ pub fn read_amounts(line: &[u8], amounts: &mut [i32; LINES]) -> Result<AmountsKi
 {
     let frame = Frame::read(line)?;
     let kind = AmountsKind::of(frame.kind())?;
-    frame.expect(52)?;
+    frame.expect(PAYLOAD as u8)?;
     take_amounts(&frame, amounts);
     Ok(kind)
 }
 
-// The amounts of a frame that carries thirteen.
+// The amounts of a frame that carries them.
 fn take_amounts(frame: &Frame, amounts: &mut [i32; LINES])
     requires { ⌜ length (held (now frame)) ≡ 55 ⌝ }
     ensures { λ _. ⌜ now (amounts .exit) ≡ amounts-of (payload-of (held (now (frame .entry)))) ⌝ }

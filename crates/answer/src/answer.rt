@@ -7,6 +7,7 @@ ghost use Rattle.answer.specs.Amounts.{amounts-payload};
 ghost use Rattle.answer.specs.Answers.{answer-frame, answer-line, Amounts-read-back};
 ghost use Rattle.answer.specs.Kinds.{kind-byte};
 ghost use Rattle.answer.specs.declared.answer.Answer.the-variants.{Refused};
+use crate::amounts::PAYLOAD;
 use crate::kind::AmountsKind;
 use frame::Frame;
 use reading::Fault;
@@ -56,11 +57,11 @@ fn refusal_frame(fault: Fault) -> Frame
     Frame::new(0x7f, &[fault.number(), fault.layer() as u8, high, low])
 }
 
-// The frame of thirteen amounts, four bytes each.
+// The frame of the amounts, four bytes each.
 fn amounts_frame(kind: AmountsKind, amounts: &[i32; LINES]) -> Frame
     ensures { λ r. ⌜ held r ≡ framed (kind-byte kind) (amounts-payload (now (amounts .entry))) ⌝ }
 {
-    let mut payload = [0; 52];
+    let mut payload = [0; PAYLOAD];
     for (i, amount) in amounts.iter().enumerate() {
         let [a, b, c, d] = amount.to_be_bytes();
         payload[4 * i] = a;

@@ -1,3 +1,4 @@
 pub mod Refusal
 pub mod Demand
 pub mod Limits
+pub mod Statement

@@ -13,5 +13,5 @@ pub use fault::Layer;
 pub use reading::Reading;
 pub use site_month::SiteMonth;
 
-// How many lines a statement has, numbered from 0.
+// How many lines a statement has, numbered from 0: `lines` of the specifications.
 pub const LINES: usize = 13;
