@@ -1,5 +1,6 @@
 -- The limits of a reading.
 use mathlib.Core.Bool.{Bool, _&&_}
+use Prim.Native.Nat.{_≤_}
 use lib.Dec.{leb}
 use Rattle.reading.specs.declared.entry.Entry.{Entry}
 
@@ -21,3 +22,14 @@ within-each-other e = leb (e .«off_hours») (e .kwh) && leb (e .«peak_demand»
 -- An entry that a reading may have.
 abbrev pub lawful : Entry → Bool
 lawful e = within-limits e && within-each-other e
+
+-- What is known of one, field by field.
+pub record Limits (e : Entry) : Type 0 where
+  pub flags : e .flags ≤ 15
+  pub kwh : e .kwh ≤ 999999
+  pub off-hours : e .«off_hours» ≤ e .kwh
+  pub demand : e .demand ≤ 99999
+  pub peak-demand : e .«peak_demand» ≤ e .demand
+  pub kvar : e .kvar ≤ 9999
+  pub power-factor : e .«power_factor» ≤ 100
+  pub load : e .load ≤ 10000

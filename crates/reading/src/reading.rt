@@ -2,7 +2,7 @@
 ghost use mathlib.Core.Path.{_≡_};
 ghost use mathlib.Core.Bool.{true, false};
 ghost use Rattle.std.specs.Options.{Cases};
-ghost use Rattle.reading.specs.Limits.{lawful};
+ghost use Rattle.reading.specs.Limits.{lawful, Limits};
 use crate::entry::Entry;
 
 // An entry that keeps the limits of a reading. Nothing but a check makes one.
@@ -37,6 +37,7 @@ impl Reading {
     pub fn entry(&self) -> Entry
         ensures value { λ r. ⌜ r ≡ now (self .entry) .entry ⌝ }
         ensures within { λ r. ⌜ lawful r ≡ true ⌝ }
+        ensures limits { λ r. ⌜ Limits r ⌝ }
     {
         self.entry
     }

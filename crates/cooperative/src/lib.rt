@@ -1,0 +1,5 @@
+// The cooperative's book.
+mod cooperative;
+
+pub use cooperative::Cooperative;
+pub use cooperative::CooperativeBook;
