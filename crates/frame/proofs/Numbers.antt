@@ -1,14 +1,18 @@
 -- The number that bytes spell.
 use mathlib.Core.Path.{_≡_, refl, sym, ap, _∙_}
 use mathlib.Core.List.{List, [], _∷_, _++_}
-use Prim.Native.Nat.{ℕ, suc, _+_, _*_, _^_, _<_, _≤_}
+use Prim.Native.Nat.{ℕ, _+_, _-_, _*_, _^_, _<_, _≤_}
 use native.Mathlib.Omega.{arith}
 use native.Mathlib.Nat.{pow-suc, pow-le-pow-right}
 use native.Mathlib.Numerals.{add-one}
 use lib.Dec.{lit≤}
-use lib.ListN.{length, getD, take}
+use lib.ListN.{length, getD, take, drop}
 use Rattle.std.specs.shelf.Digits.{number}
-use Rattle.std.proofs.shelf.Digits.{number-more}
+use Rattle.std.specs.shelf.Lists.{All}
+use Rattle.std.proofs.shelf.Digits.{number-more, number-lt}
+use Rattle.std.proofs.shelf.Elements.{all-take, all-drop}
+use Rattle.std.proofs.shelf.Lists.{length-take}
+use Rattle.frame.specs.Seal.{field}
 
 pub pow-more : (i : ℕ) → 256 ^ (i + 1) ≡ 256 ^ i * 256
 pow-more i = rw (add-one i) (pow-suc 256 i)
@@ -26,3 +30,12 @@ room i t b h small below =
     let few : i ≤ 3 = omega arith in
     let power : 256 ^ i ≤ 256 ^ 3 = pow-le-pow-right (lit≤ tt) few in
     omega arith
+
+-- A field of bytes.
+pub field-below : (frame : List ℕ) (byte width : ℕ) → All (λ b. b < 256) frame → field frame byte width < 256 ^ width
+field-below frame byte width fit =
+    let bytes = take width (drop (byte - 1) frame) in
+    let under = all-take (λ b. b < 256) width (drop (byte - 1) frame) (all-drop (λ b. b < 256) (byte - 1) frame fit) in
+    let few : length bytes ≤ width = omega (arith, length-take width (drop (byte - 1) frame)) in
+    let power : 256 ^ length bytes ≤ 256 ^ width = pow-le-pow-right (lit≤ tt) few in
+    omega (arith, number-lt 256 bytes under)

@@ -1,15 +1,18 @@
 -- The tests of a card's frame.
-use mathlib.Core.Path.{_≡_, sym, ap, _∙_}
-use mathlib.Core.List.{List}
-use Prim.Native.Nat.{ℕ, _<_, _≤_}
+use mathlib.Core.Path.{_≡_, refl, sym, ap, _∙_}
+use mathlib.Core.Bool.{true}
+use mathlib.Core.List.{List, [], _∷_, map}
+use Prim.Native.Nat.{ℕ, _+_, _*_, _<_, _≤_}
 use native.Mathlib.Omega.{arith}
-use Rattle.std.proofs.shelf.Tests.{lt-ltb, le-ltb}
+use Rattle.std.proofs.shelf.Tests.{lt-ltb, le-ltb, le-leb, and-from}
+use Rattle.std.specs.shelf.Lists.{All}
 use Rattle.std.proofs.shelf.Ways.{tells}
 use Rattle.std.specs.declared.option.Option.the-variants.{None, Some}
 use Rattle.reading.specs.declared.fault.Fault.the-variants.{Kind, Limit}
 use Rattle.frame.specs.Seal.{kind-of, field}
 use Rattle.frame.specs.Tests.{first, kind-test}
-use Rattle.oregon.specs.Layout.{Values, card-length, card-field-tests}
+use Rattle.frame.proofs.Numbers.{field-below}
+use Rattle.oregon.specs.Layout.{Values, rates-fit, card-length, card-field-tests}
 
 other-kind : (byte : ℕ) → (byte ≡ 16 → ⊥) → card-length byte ≡ None
 other-kind byte other = grind (arith, tells)
@@ -31,3 +34,10 @@ module _ (cap : ℕ) (frame : List ℕ) (is : cap ≡ field frame 3 4) where
 -- What cards say is equal part by part.
 pub same-values : (cap cap′ : ℕ) (supply supply′ low low′ : List ℕ) → cap ≡ cap′ → supply ≡ supply′ → low ≡ low′ → _≡_ {A = Values} (record { cap = cap; supply = supply; low-income = low }) (record { cap = cap′; supply = supply′; low-income = low′ })
 same-values cap cap′ supply supply′ low low′ caps supplies lows = cc
+
+-- Fields of two bytes fit a rate.
+pub fields-fit : (frame : List ℕ) (first : ℕ) (is : List ℕ) → All (λ b. b < 256) frame → rates-fit (map (λ i. field frame (first + 4 * i) 2) is) ≡ true
+fields-fit frame first [] bytes = refl
+fields-fit frame first (i ∷ is) bytes =
+    let below = field-below frame (first + 4 * i) 2 bytes in
+    and-from _ _ (le-leb (field frame (first + 4 * i) 2) 65535 (omega arith)) (fields-fit frame first is bytes)

@@ -1,1 +1,4 @@
 pub mod Cards
+pub mod Laws
+pub mod Products
+pub mod Tables

@@ -1,9 +1,9 @@
 -- Oregon's card as a frame: the cap, and for each schedule 4, 5, 23, 28, 29, 728 and 730 its supply rate and then its
 -- low-income rate.
-use mathlib.Core.Bool.{cond}
+use mathlib.Core.Bool.{Bool, true, cond, _&&_}
 use mathlib.Core.List.{List, [], _∷_, map}
 use Prim.Native.Nat.{ℕ, _+_, _*_}
-use lib.Dec.{eqb, ltb}
+use lib.Dec.{eqb, leb, ltb}
 use Rattle.std.specs.Iters.{counting}
 use Rattle.std.specs.declared.option.Option.{Option}
 use Rattle.std.specs.declared.option.Option.the-variants.{None, Some}
@@ -29,6 +29,11 @@ values-in frame =
       supply = map (λ i. field frame (7 + 4 * i) 2) (counting 0 7);
       low-income = map (λ i. field frame (9 + 4 * i) 2) (counting 0 7);
     }
+
+-- Rates of two bytes.
+abbrev pub rates-fit : List ℕ → Bool
+rates-fit [] = true
+rates-fit (rate ∷ rates) = leb rate 65535 && rates-fit rates
 
 -- 7: the cap is above 99,999,999.
 abbrev pub cap-test : List ℕ → Option Fault

@@ -1,2 +1,5 @@
 pub mod Layout
+pub mod Rates
 pub mod Reply
+pub mod Schedules
+pub mod Sheet

@@ -1,7 +1,11 @@
 // Oregon's card.
+ghost use mathlib.Core.Bool.{true};
+ghost use mathlib.Core.Path.{_≡_};
 ghost use Prim.Native.Nat.{_≤_};
+ghost use Rattle.oregon.specs.Layout.{rates-fit};
 
 mod read;
+mod values;
 
 pub use read::CardReply;
 pub use read::take_card;
@@ -16,4 +20,6 @@ pub struct Card {
     // In thousandths of a cent per kWh.
     low_income: [u16; 7],
     ghost capped: { cap ≤ 99999999 },
+    ghost supply_fits: { rates-fit supply ≡ true },
+    ghost low_income_fits: { rates-fit «low_income» ≡ true },
 }

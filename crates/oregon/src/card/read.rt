@@ -1,5 +1,6 @@
 // Reading a card and answering its line.
 ghost use mathlib.Core.Path.{_≡_};
+ghost use mathlib.Core.Bool.{true};
 ghost use mathlib.Core.List.{map};
 ghost use Prim.Native.Nat.{_+_, _*_, _≤_};
 ghost use lib.ListN.{length};
@@ -12,7 +13,7 @@ ghost use Rattle.frame.specs.Line.{bytes-of};
 ghost use Rattle.frame.specs.Seal.{field};
 ghost use Rattle.frame.specs.Tests.{first};
 ghost use Rattle.frame.specs.Written.{Written};
-ghost use Rattle.oregon.specs.Layout.{values-in, card-tests};
+ghost use Rattle.oregon.specs.Layout.{values-in, rates-fit, card-tests};
 ghost use Rattle.oregon.specs.Reply.{values, card-line, card-on};
 use crate::card::Card;
 use answer::Answer;
@@ -74,7 +75,8 @@ impl Card {
 // The rates of the seven schedules, the first of which is at this byte. They lie four bytes apart.
 fn rates(frame: &Frame, first: usize) -> [u16; 7]
     requires { ⌜ length (held (now frame)) ≡ 35 ⌝ ∗ ⌜ 1 ≤ first ⌝ ∗ ⌜ first ≤ 9 ⌝ }
-    ensures { λ r. ⌜ r ≡ map (λ i. field (held (now (frame .entry))) (first + 4 * i) 2) (counting 0 7) ⌝ }
+    ensures value { λ r. ⌜ r ≡ map (λ i. field (held (now (frame .entry))) (first + 4 * i) 2) (counting 0 7) ⌝ }
+    ensures fit { λ r. ⌜ rates-fit r ≡ true ⌝ }
 {
     let mut rates = [0; 7];
     for i in 0..7 {

@@ -57,5 +57,5 @@ returns c =
           fields-decide card-length card-field-tests (c .args .line .now) f (read .value) (read .refused) 32
           (card-named (c .kind .result) f (c .kind .ensures) (c .if-kind-ne-KIND .left)) _ (c .in-Continue-expect .ensures tt .refused)
           (cap-passes (c .number-cap .result) f (c .number-cap .ensures .value) (c .if-cap-gt99999999 .left));
-      value = same-values _ _ _ _ _ _ (c .number-cap .ensures .value) (c .rates .ensures) (c .rates-2 .ensures) ∙ ap values-in (read .value);
+      value = same-values _ _ _ _ _ _ (c .number-cap .ensures .value) (c .rates .ensures .value) (c .rates-2 .ensures .value) ∙ ap values-in (read .value);
     }

@@ -3,9 +3,13 @@ use Prim.Native.Nat.{ℕ, _+_, _*_, _<_}
 use native.Mathlib.Omega.{arith}
 use lib.ListN.{length, getD, set, length-set}
 use Rattle.std.proofs.shelf.Counted.{fill-by-all}
+use Rattle.std.specs.Iters.{counting}
 use Rattle.std.proofs.shelf.Edits.{fill-by-more}
 use Rattle.frame.specs.Held.{held}
 use Rattle.frame.specs.Seal.{field}
+use Rattle.frame.proofs.Bytes.{below-each}
+use Rattle.oregon.specs.Layout.{rates-fit}
+use Rattle.oregon.proofs.Cards.{fields-fit}
 use Rattle.oregon.proofs.card.read.rates.Needs as need
 
 pub loop-i-again : need.loop-i-again
@@ -18,5 +22,8 @@ loop-i-again c =
 
 pub returns : need.returns
 returns c =
-    fill-by-all (λ i. field (held (c .args .frame .now)) (c .args .first + 4 * i) 2) (c .loop-i .rates) 7 0 (c .loop-i .inv .1)
-    (λ k below. c .loop-i .inv .0 k (omega arith))
+    let frame = held (c .args .frame .now) in
+    let all =
+        fill-by-all (λ i. field frame (c .args .first + 4 * i) 2) (c .loop-i .rates) 7 0 (c .loop-i .inv .1)
+        (λ k below. c .loop-i .inv .0 k (omega arith)) in
+    record { value = all; fit = ap rates-fit all ∙ fields-fit frame (c .args .first) (counting 0 7) (below-each frame (c .args .frame .now .fit)) }
