@@ -6,7 +6,7 @@ use crate::lines;
 use crate::tariffs::{self, alone, Book, Card, PerLine, Reading, Refused};
 
 /// A reading and the book it is reckoned by: one line of input.
-#[derive(Clone, Copy, Debug, PartialEq, Eq)]
+#[derive(Clone, Copy, Debug, PartialEq, Eq, Hash)]
 pub struct Entry {
     pub book: Book,
     pub reading: Reading,
@@ -255,7 +255,10 @@ mod tests {
             ("oregon,4,16,0,0,0,0,0,0,0", AboveLimit(Field::Flags)),
             ("oregon,4,0,1000000,0,0,0,0,0,0", AboveLimit(Field::Kwh)),
             ("oregon,4,0,0,0,100000,0,0,0,0", AboveLimit(Field::Demand)),
-            ("oregon,4,0,0,0,0,100000,0,0,0", AboveLimit(Field::PeakDemand)),
+            (
+                "oregon,4,0,0,0,0,100000,0,0,0",
+                AboveLimit(Field::PeakDemand),
+            ),
             ("oregon,4,0,0,0,0,0,10000,0,0", AboveLimit(Field::Kvar)),
             ("oregon,4,0,0,0,0,0,0,101,0", AboveLimit(Field::PowerFactor)),
             ("oregon,4,0,0,0,0,0,0,0,10001", AboveLimit(Field::LoadSize)),

@@ -3,6 +3,7 @@
 //! Readings that stand at an edge of the tariffs are built on purpose; the
 //! rest are random.
 
+use std::collections::HashSet;
 use std::ops::RangeInclusive;
 
 use crate::bills::{Entry, Field};
@@ -92,7 +93,7 @@ pub fn offers() -> Vec<Entry> {
     offers
 }
 
-/// All entries built on purpose.
+/// All entries built on purpose, each once.
 pub fn built(card: &Card, random: &mut Random) -> Vec<Entry> {
     let mut entries = Vec::new();
     for offer in offers() {
@@ -115,6 +116,8 @@ pub fn built(card: &Card, random: &mut Random) -> Vec<Entry> {
         }
     }
     entries.extend(worked_cases());
+    let mut seen = HashSet::new();
+    entries.retain(|entry| seen.insert(*entry));
     entries
 }
 
@@ -228,10 +231,10 @@ fn demand_edges(offer: Entry, random: &mut Random) -> Vec<Entry> {
 /// Kvar just below, at and just above 40% of the demand.
 fn reactive_edges(offer: Entry) -> Vec<Entry> {
     let mut entries = Vec::new();
-    for kw in [0, 1, 2, 3, 4, 5, 10, 15, 20, 99, 100, 9_995] {
+    for kw in [0u128, 1, 3, 4, 15, 20, 100, 9_995] {
         for demand in [10 * kw, 10 * kw + 4, 10 * kw + 5] {
             let at = 4 * kw / 10;
-            for kvar in [at.saturating_sub(1), at, at + 1, at + 2] {
+            for kvar in [at.saturating_sub(1), at, at + 1] {
                 entries.push(with(offer, |reading| {
                     reading.demand = demand;
                     reading.kvar = kvar;
@@ -267,7 +270,11 @@ fn floor_line_edges(card: &Card, offer: Entry) -> Vec<Entry> {
             alone(entry.book, card, &entry.reading)[7] > 0
         });
         let edge = edge.unwrap_or(KWH_LIMIT);
-        entries.extend((edge - 8..=edge + 8).filter(|kwh| *kwh <= KWH_LIMIT).map(at));
+        entries.extend(
+            (edge - 8..=edge + 8)
+                .filter(|kwh| *kwh <= KWH_LIMIT)
+                .map(at),
+        );
     }
     entries
 }
@@ -435,7 +442,10 @@ impl Stretch {
         found.extend(steps.to_above_half());
         found.sort();
         found.dedup();
-        found.into_iter().map(|steps| self.at(first + steps)).collect()
+        found
+            .into_iter()
+            .map(|steps| self.at(first + steps))
+            .collect()
     }
 }
 
@@ -467,7 +477,7 @@ impl Steps {
     /// The least number of steps to an amount with this part of a cent.
     fn to(&self, part: u128) -> Option<u128> {
         let way = part + UNITS_PER_CENT - self.start;
-        if way % self.pace != 0 {
+        if !way.is_multiple_of(self.pace) {
             return None;
         }
         let steps = way / self.pace % self.period * self.inverse % self.period;
@@ -486,7 +496,8 @@ impl Steps {
     }
 
     fn to_below_half(&self) -> Option<u128> {
-        let mut part = HALF_CENT - 1 - (HALF_CENT - 1 + self.pace - self.start % self.pace) % self.pace;
+        let mut part =
+            HALF_CENT - 1 - (HALF_CENT - 1 + self.pace - self.start % self.pace) % self.pace;
         loop {
             if let Some(steps) = self.to(part) {
                 return Some(steps);
@@ -674,7 +685,7 @@ fn quantity(limit: u128, random: &mut Random) -> u128 {
     match random.up_to(7) {
         0 => random.up_to(30),
         1..=3 => {
-            let bits = random.up_to(20);
+            let bits = random.up_to(u128::from(limit.ilog2()) + 1);
             random.up_to((1 << bits) - 1).min(limit)
         }
         4..=6 => random.up_to(limit),
@@ -688,5 +699,213 @@ fn part(whole: u128, random: &mut Random) -> u128 {
         0 => 0,
         1 => whole,
         _ => random.up_to(whole),
+    }
+}
+
+#[cfg(test)]
+mod tests {
+    use super::*;
+    use crate::bills::{read_entry, write_entry};
+    use crate::tariffs::{weights, LINES};
+
+    fn built_of(seed: u64) -> (Card, Vec<Entry>) {
+        let mut random = Random::new(seed);
+        let card = card(seed, &mut random);
+        let built = built(&card, &mut random);
+        (card, built)
+    }
+
+    #[test]
+    fn forty_three_offers() {
+        assert_eq!(offers().len(), 43);
+    }
+
+    #[test]
+    fn entries_are_lawful_and_as_many_as_asked() {
+        for seed in 0..5 {
+            for count in [0, 10, 30_000] {
+                let mut random = Random::new(seed);
+                let card = card(seed, &mut random);
+                let entries = entries(&card, count, &mut random);
+                assert_eq!(entries.len(), count);
+                for entry in entries {
+                    let line = write_entry(&entry);
+                    assert_eq!(read_entry(line.as_bytes()), Ok(entry), "{line}");
+                }
+            }
+        }
+    }
+
+    #[test]
+    fn a_seed_gives_the_same_again() {
+        let (card, built) = built_of(9);
+        assert_eq!(built_of(9), (card.clone(), built.clone()));
+        let again = |seed| entries(&card, 20_000, &mut Random::new(seed));
+        assert_eq!(again(1), again(1));
+        assert_ne!(again(1), again(2));
+    }
+
+    #[test]
+    fn twenty_five_seeds_have_every_kind_of_card() {
+        let cards: Vec<Card> = (0..25)
+            .map(|seed| card(seed, &mut Random::new(seed)))
+            .collect();
+        let with_rate = |card: &Card, rate| card.rates.iter().any(|r| r.low_income == rate);
+        for rate in [0, RATE_LIMIT] {
+            for cap in [0, CAP_LIMIT] {
+                assert!(cards
+                    .iter()
+                    .any(|card| card.cap == cap && with_rate(card, rate)));
+            }
+        }
+        assert!(cards.iter().any(|card| (1..=100).contains(&card.cap)));
+    }
+
+    fn has(built: &[Entry], offer: &Entry, test: impl Fn(&Reading) -> bool) -> bool {
+        built.iter().any(|entry| {
+            entry.book == offer.book
+                && entry.reading.schedule == offer.reading.schedule
+                && entry.reading.flags == offer.reading.flags
+                && test(&entry.reading)
+        })
+    }
+
+    #[test]
+    fn edges_on_every_offer() {
+        let (_, built) = built_of(1);
+        for offer in offers() {
+            assert!(built.contains(&offer));
+            for load_size in [50, 51, 100, 101, 200, 201, 300, 301, LOAD_SIZE_LIMIT] {
+                assert!(has(&built, &offer, |r| r.load_size == load_size));
+            }
+            for kw in [0, 1, 2, 14, 15, 16, 99, 100, 101, 10_000] {
+                assert!(has(&built, &offer, |r| r.demand_kw() == kw));
+            }
+            for demand in [4, 5, 144, 145, 994, 995, DEMAND_LIMIT] {
+                assert!(has(&built, &offer, |r| r.demand == demand));
+            }
+            assert!(has(&built, &offer, |r| r.kvar > 0
+                && 10 * r.kvar == 4 * r.demand_kw()));
+            assert!(has(&built, &offer, |r| 10 * r.kvar == 4 * r.demand_kw() + 2));
+            assert!(has(&built, &offer, |r| 10 * r.kvar + 2 == 4 * r.demand_kw()));
+        }
+    }
+
+    #[test]
+    fn edges_of_29() {
+        let (card, built) = built_of(1);
+        let offers = offers()
+            .into_iter()
+            .filter(|offer| offer.reading.schedule == 29);
+        for offer in offers {
+            for kw in [15, 16, 100, 10_000] {
+                for kwh in [50 * kw - 1, 50 * kw, 50 * kw + 1] {
+                    assert!(has(&built, &offer, |r| r.kwh == kwh && billed_demand(r) == kw));
+                }
+            }
+            for floor in 0..3 {
+                assert!(has(&built, &offer, |r| {
+                    let amounts = alone(Book::Oregon, &card, r);
+                    let delivery = amounts[2] + amounts[5] + amounts[6];
+                    amounts[3] + 2 == delivery + floor
+                }));
+            }
+        }
+    }
+
+    #[test]
+    fn edges_of_the_cooperative() {
+        let (_, built) = built_of(1);
+        let offer = offers()[42];
+        assert_eq!(offer.book, Book::Cooperative);
+        for kwh in [74_999, 75_000, 75_001] {
+            assert!(has(&built, &offer, |r| r.kwh == kwh));
+        }
+        for power_factor in [0, 96, 97, 98, 100] {
+            assert!(has(&built, &offer, |r| r.power_factor == power_factor
+                && r.demand > 0));
+        }
+    }
+
+    #[test]
+    fn caps_are_reached_and_passed() {
+        let (card, built) = built_of(0);
+        let charges: Vec<u128> = built
+            .iter()
+            .filter(|entry| entry.book == Book::Oregon)
+            .map(|entry| cents(weights(entry.book, &card, &entry.reading)[LOW_INCOME_LINE]))
+            .collect();
+        for charge in card.cap - 1..=card.cap + 1 {
+            assert!(charges.contains(&charge));
+        }
+    }
+
+    /// Offers of Oregon's book for which some built entry has a line at a half.
+    fn offers_at_half(built: &[Entry], card: &Card, line: usize) -> Vec<(u128, u128)> {
+        let mut offers = Vec::new();
+        for entry in built.iter().filter(|entry| entry.book == Book::Oregon) {
+            let offer = (entry.reading.schedule, entry.reading.flags);
+            let units = units(entry.book, card, &entry.reading)[line];
+            if units % UNITS_PER_CENT == HALF_CENT && !offers.contains(&offer) {
+                offers.push(offer);
+            }
+        }
+        offers
+    }
+
+    #[test]
+    fn half_cents_on_every_line_that_has_them() {
+        let (card, built) = built_of(0);
+        let at_half: Vec<usize> = (0..LINES)
+            .map(|line| offers_at_half(&built, &card, line).len())
+            .collect();
+        // Lines 0 and 7 are whole cents.
+        assert_eq!([at_half[0], at_half[7]], [0, 0]);
+        for line in [1, 2, 3, 4, 5, 6, 8, 9, 10, 11, 12] {
+            assert!(at_half[line] > 0, "line {line}");
+        }
+        // Without a factor, 3 thousandths of a cent for 500 kWh are 1.5 cents.
+        assert!(offers_at_half(&built, &card, 11).contains(&(28, 0)));
+        for line in [1, 4] {
+            let at_half = built.iter().any(|entry| {
+                entry.book == Book::Cooperative
+                    && units(entry.book, &card, &entry.reading)[line] % UNITS_PER_CENT == HALF_CENT
+            });
+            assert!(at_half, "line {line}");
+        }
+    }
+
+    /// The search for halves against a look at every value.
+    #[test]
+    fn halves_are_found_where_there_are_any() {
+        let (card, _) = built_of(2);
+        let mut random = Random::new(3);
+        for offer in offers() {
+            let stretches = match offer.book {
+                Book::Oregon => oregon_stretches(offer, &mut random),
+                Book::Cooperative => cooperative_stretches(offer, &mut random),
+            };
+            for mut stretch in stretches {
+                let first = *stretch.range.start();
+                let last = (*stretch.range.end()).min(first + 2_000);
+                stretch.range = first..=last;
+                let part = |entry: &Entry| {
+                    units(entry.book, &card, &entry.reading)[stretch.line] % UNITS_PER_CENT
+                };
+                let parts: Vec<u128> = (first..=last).map(|x| part(&stretch.at(x))).collect();
+                let found = stretch.around_half(&card, &mut random);
+                if found.is_empty() {
+                    assert!(parts.iter().all(|p| *p == parts[0]));
+                    continue;
+                }
+                let found: Vec<u128> = found.iter().map(part).collect();
+                let nearest = |parts: &[u128]| {
+                    let below = parts.iter().copied().filter(|p| *p < HALF_CENT).max();
+                    let above = parts.iter().copied().filter(|p| *p > HALF_CENT).min();
+                    (below, above, parts.contains(&HALF_CENT))
+                };
+                assert_eq!(nearest(&found), nearest(&parts));
+            }
+        }
     }
 }

@@ -64,7 +64,7 @@ pub fn spell(bytes: &[u8]) -> String {
 
 /// The frame of a line. `served` has each kind served and its payload length.
 pub fn read_frame(line: &[u8], served: &[(u8, usize)]) -> Result<Frame, Refusal> {
-    let even = line.len() % 2 == 0;
+    let even = line.len().is_multiple_of(2);
     if !even || line.len() < SHORTEST_LINE || line.len() > LONGEST_LINE {
         return Err(Refusal::new(2, 1, 0));
     }
@@ -99,7 +99,10 @@ fn bytes_of(line: &[u8]) -> Result<Vec<u8>, Refusal> {
             _ => return Err(Refusal::new(3, 1, index as u16 + 1)),
         });
     }
-    Ok(digits.chunks(2).map(|pair| pair[0] * 16 + pair[1]).collect())
+    Ok(digits
+        .chunks(2)
+        .map(|pair| pair[0] * 16 + pair[1])
+        .collect())
 }
 
 // ---- Oregon's card ----

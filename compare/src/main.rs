@@ -18,10 +18,12 @@ fn main() -> ExitCode {
     let arguments: Vec<&str> = arguments.iter().map(String::as_str).collect();
     let mut output = BufWriter::new(io::stdout().lock());
     let done = match arguments[..] {
-        ["generate", seed, count] => numbers(seed, count)
-            .map(|(seed, count)| generate(seed, count, &mut output)),
-        ["generate-bad", seed, count] => numbers(seed, count)
-            .map(|(seed, count)| generate_bad(seed, count, &mut output)),
+        ["generate", seed, count] => {
+            numbers(seed, count).map(|(seed, count)| generate(seed, count, &mut output))
+        }
+        ["generate-bad", seed, count] => {
+            numbers(seed, count).map(|(seed, count)| generate_bad(seed, count, &mut output))
+        }
         ["expect"] => Some(expect(&mut output)),
         _ => None,
     };

@@ -19,19 +19,23 @@ pub fn input(seed: u64, count: usize) -> Vec<u8> {
     let mut spoils = spoils();
     random.shuffle(&mut spoils);
     let mut spoils = spoils.iter().cycle();
-    let mut good = generator::entries(&card, count, &mut random).into_iter();
-    for left in (0..count).rev() {
-        let entry = good.next().expect("as many entries as lines");
-        let spoiled = left > 0 && random.up_to(4) < 2;
-        lines.push(match spoils.next().filter(|_| spoiled) {
-            Some(spoil) => spoil.line(&card, &entry, &mut random),
-            None if random.one_in(20) => padded(&entry, &mut random),
-            None => write_entry(&entry).into_bytes(),
+    for (index, entry) in generator::entries(&card, count, &mut random)
+        .iter()
+        .enumerate()
+    {
+        let last = index + 1 == count;
+        lines.push(if !last && random.up_to(4) < 2 {
+            let spoil = spoils.next().expect("a cycle has no end");
+            spoil.line(&card, entry, &mut random)
+        } else if random.one_in(20) {
+            padded(entry, &mut random)
+        } else {
+            write_entry(entry).into_bytes()
         });
     }
 
     let mut input = lines.join(&b'\n');
-    if seed % 2 == 0 {
+    if seed.is_multiple_of(2) {
         input.push(b'\n');
     }
     input
@@ -50,14 +54,21 @@ fn padded(entry: &Entry, random: &mut Random) -> Vec<u8> {
 pub fn refused_cards(card: &Card) -> Vec<Vec<u8>> {
     let good = write_card(card);
     let payload = card_payload(card);
-    let with_cap = |cap| write_card(&Card { cap, ..card.clone() });
+    let with_cap = |cap| {
+        write_card(&Card {
+            cap,
+            ..card.clone()
+        })
+    };
     let with_character = |place: usize, character: &str| {
         format!("{}{character}{}", &good[..place], &good[place + 1..])
     };
     // Right sum, but the length byte is not that of the payload.
     let mut wrong_length = vec![CARD, 31];
     wrong_length.extend(&payload);
-    let sum = wrong_length.iter().fold(0u8, |sum, byte| sum.wrapping_add(*byte));
+    let sum = wrong_length
+        .iter()
+        .fold(0u8, |sum, byte| sum.wrapping_add(*byte));
     wrong_length.push(sum.wrapping_neg());
     // Any other last digit spoils the sum.
     let other_digit = if good.ends_with('0') { "1" } else { "0" };
@@ -209,10 +220,28 @@ fn spoils() -> Vec<Spoil> {
         Spoil::Separator("\r"),
         Spoil::ManyFaults,
     ];
-    for line in ["", "", "", "", " ", "\r", "\t", ",", ",,,,,,,,,", "900070", "# line 3: "] {
+    for line in [
+        "",
+        "",
+        "",
+        "",
+        " ",
+        "\r",
+        "\t",
+        ",",
+        ",,,,,,,,,",
+        "900070",
+        "# line 3: ",
+    ] {
         spoils.push(Spoil::Line(line.as_bytes().to_vec()));
     }
-    for (character, length) in [(b'0', 129), (b',', 300), (b'1', 5_000), (b',', 5_000), (0, 10)] {
+    for (character, length) in [
+        (b'0', 129),
+        (b',', 300),
+        (b'1', 5_000),
+        (b',', 5_000),
+        (0, 10),
+    ] {
         spoils.push(Spoil::Line(vec![character; length]));
     }
     for fields in (1..=9).chain([11, 12, 20, 200]) {
@@ -292,8 +321,14 @@ impl Spoil {
             }
             Spoil::Offer(book, schedule, flags) => {
                 let reading = random_entry(card, random).reading;
-                let entry = Entry { book: *book, reading };
-                changed(&entry, &[(Field::Schedule, *schedule), (Field::Flags, *flags)])
+                let entry = Entry {
+                    book: *book,
+                    reading,
+                };
+                changed(
+                    &entry,
+                    &[(Field::Schedule, *schedule), (Field::Flags, *flags)],
+                )
             }
             Spoil::ManyFaults => {
                 let faults = [
@@ -321,4 +356,96 @@ fn changed(entry: &Entry, changes: &[(Field, u128)]) -> Vec<u8> {
         field.set(&mut changed.reading, *value);
     }
     write_entry(&changed).into_bytes()
+}
+
+#[cfg(test)]
+mod tests {
+    use super::*;
+    use crate::bills::{expect, read_entry, BadLine};
+    use crate::lines::read_card;
+
+    fn setting() -> (Card, Random) {
+        let mut random = Random::new(5);
+        (generator::card(5, &mut random), random)
+    }
+
+    #[test]
+    fn every_spoil_makes_a_bad_line() {
+        let (card, mut random) = setting();
+        for spoil in spoils() {
+            for _ in 0..20 {
+                let entry = random_entry(&card, &mut random);
+                let line = spoil.line(&card, &entry, &mut random);
+                assert!(read_entry(&line).is_err(), "{spoil:?}");
+                assert!(!line.contains(&b'\n'));
+            }
+        }
+    }
+
+    #[test]
+    fn every_fault_is_there() {
+        let (card, mut random) = setting();
+        let mut faults = Vec::new();
+        for spoil in spoils() {
+            let entry = random_entry(&card, &mut random);
+            faults.extend(read_entry(&spoil.line(&card, &entry, &mut random)).err());
+        }
+        for fault in [
+            BadLine::FieldCount,
+            BadLine::Book,
+            BadLine::OffHoursAboveKwh,
+            BadLine::PeakAboveDemand,
+            BadLine::NoSchedule,
+            BadLine::FlagNotOffered,
+        ] {
+            assert!(faults.contains(&fault), "{fault:?}");
+        }
+        for (field, limit) in FIELDS {
+            assert!(faults.contains(&BadLine::NotDecimal(field)));
+            assert!(limit.is_none() || faults.contains(&BadLine::AboveLimit(field)));
+        }
+    }
+
+    #[test]
+    fn refused_cards_are_refused() {
+        for seed in 0..25 {
+            let card = generator::card(seed, &mut Random::new(seed));
+            let mut numbers = Vec::new();
+            for line in refused_cards(&card) {
+                numbers.push(read_card(&line).unwrap_err().number);
+            }
+            for number in 2..=7 {
+                assert!(numbers.contains(&number));
+            }
+        }
+    }
+
+    #[test]
+    fn padded_lines_are_good() {
+        let (card, mut random) = setting();
+        for _ in 0..200 {
+            let entry = random_entry(&card, &mut random);
+            assert_eq!(read_entry(&padded(&entry, &mut random)), Ok(entry));
+        }
+    }
+
+    #[test]
+    fn two_of_five_lines_are_bad() {
+        for seed in [6, 7] {
+            let input = input(seed, 5_000);
+            assert_eq!(input.ends_with(b"\n"), seed % 2 == 0);
+            let mut output = Vec::new();
+            expect(&input, &mut output).unwrap();
+            let output = String::from_utf8(output).unwrap();
+            let (card, _) = setting();
+            let refused = refused_cards(&card).len();
+            assert_eq!(output.lines().count(), refused + 5_000);
+            let bad = output
+                .lines()
+                .filter(|line| line.starts_with("# line "))
+                .count();
+            assert!((1_800..2_200).contains(&(bad - refused)));
+            assert!(!output.lines().last().unwrap().starts_with('#'));
+        }
+    }
 }

@@ -37,13 +37,13 @@ pub const LOW_INCOME_LINE: usize = 12;
 
 // ---- A reading ----
 
-#[derive(Clone, Copy, Debug, PartialEq, Eq)]
+#[derive(Clone, Copy, Debug, PartialEq, Eq, Hash)]
 pub enum Book {
     Oregon,
     Cooperative,
 }
 
-#[derive(Clone, Copy, Debug, Default, PartialEq, Eq)]
+#[derive(Clone, Copy, Debug, Default, PartialEq, Eq, Hash)]
 pub struct Reading {
     pub schedule: u128,
     pub flags: u128,
@@ -179,10 +179,7 @@ pub fn billed_demand(reading: &Reading) -> u128 {
 
 /// In ten-thousandths.
 fn factor(reading: &Reading) -> u128 {
-    match (
-        reading.has(PRIMARY_DELIVERY),
-        reading.has(PRIMARY_METERING),
-    ) {
+    match (reading.has(PRIMARY_DELIVERY), reading.has(PRIMARY_METERING)) {
         (false, false) => 10_000,
         (false, true) => 9_845,
         (true, false) => 10_157,
@@ -514,10 +511,7 @@ mod tests {
             ..on(29, 1)
         };
         assert_eq!(oregon(reading), [0; LINES]);
-        assert_eq!(
-            settlements(Book::Oregon, &first_card(), &[]),
-            [0; LINES]
-        );
+        assert_eq!(settlements(Book::Oregon, &first_card(), &[]), [0; LINES]);
     }
 
     #[test]
@@ -637,10 +631,7 @@ mod tests {
         };
         let months: [&[Reading]; 3] = [&[reading], &[reading; 2], &[reading; 3]];
         assert_eq!(answers(&first_card(), 9, &months), [0, 1, 0]);
-        assert_eq!(
-            weights(Book::Oregon, &first_card(), &reading)[9],
-            3_500_000
-        );
+        assert_eq!(weights(Book::Oregon, &first_card(), &reading)[9], 3_500_000);
     }
 
     #[test]

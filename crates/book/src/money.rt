@@ -10,7 +10,11 @@ pub fn half_up(units: u64) -> u64
     ensures { λ r. ⌜ r ≡ half-up units ⌝ }
 {
     let whole = units / CENT;
-    if units % CENT >= CENT / 2 { whole + 1 } else { whole }
+    if units % CENT >= CENT / 2 {
+        whole + 1
+    } else {
+        whole
+    }
 }
 
 // Units rounded to whole cents, in units again.

@@ -42,10 +42,11 @@ refused o fault n h = rw h
 
 pub keeps : Lawful cooperative
 keeps =
-    record
-      { nothing = λ line. half-up-nothing
-      ; rises = λ line m n h. half-up-rises m n h
-      ; bounded = λ line n h. half-up-bounded n h
-      ; light = λ e line h. unless (isSome (check e)) (rounded (exact e line)) (rounded-bounded (exact e line) (exact-bounded e (limits e h) line))
-      ; weightless = λ e line fault h. refused (check e) fault (rounded (exact e line)) h
-      ; own = λ e fault h. grind (arith, tells) }
+    record {
+      nothing = λ line. half-up-nothing;
+      rises = λ line m n h. half-up-rises m n h;
+      bounded = λ line n h. half-up-bounded n h;
+      light = λ e line h. unless (isSome (check e)) (rounded (exact e line)) (rounded-bounded (exact e line) (exact-bounded e (limits e h) line));
+      weightless = λ e line fault h. refused (check e) fault (rounded (exact e line)) h;
+      own = λ e fault h. grind (arith, tells);
+    }

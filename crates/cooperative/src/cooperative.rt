@@ -12,6 +12,7 @@ use reading::Fault;
 use reading::Reading;
 
 const CENT: u64 = 10_000_000;
+
 const SCHEDULE: u16 = 5;
 // In cents.
 const BASIC: u64 = 22_000;
@@ -21,7 +22,9 @@ const DEMAND: u64 = 625;
 const BLOCK: u32 = 75_000;
 // In thousandths of a cent per kWh.
 const ENERGY: u64 = 3_520;
+
 const ENERGY_PAST: u64 = 4_320;
+
 const OFF_HOURS: u64 = 520;
 // In percent.
 const FULL_FACTOR: u8 = 97;
@@ -34,7 +37,11 @@ pub impl Book for Cooperative as CooperativeBook {
     ghost meaning = { λ _. sheet };
 
     fn sense(&self, line: usize) -> Sense {
-        if line == 3 { Sense::Credit } else { Sense::Charge }
+        if line == 3 {
+            Sense::Credit
+        } else {
+            Sense::Charge
+        }
     }
 
     fn check(&self, reading: &Reading) -> Result<(), Fault> {

@@ -117,10 +117,11 @@ reactive-bounded s e l =
 
 transmission-bounded : (s : Schedule) (e : Entry) → Limits e → transmission s e ≤ 10 ^ 15
 transmission-bounded s e l =
-    omega
-    ( arith
-    , per-kwh-bounded (rate transmission-rates (place s) e) (e .kwh) e (kwh-rates .1 .0 (place s) e) (l .kwh)
-    , per-kw-bounded (rate transmission-kw-rates (place s) e) (billed s e) e (kw-rates .0 (place s) e) (billed-bounded s e l) )
+    omega (
+      arith,
+      per-kwh-bounded (rate transmission-rates (place s) e) (e .kwh) e (kwh-rates .1 .0 (place s) e) (l .kwh),
+      per-kw-bounded (rate transmission-kw-rates (place s) e) (billed s e) e (kw-rates .0 (place s) e) (billed-bounded s e l),
+    )
 
 rider-bounded : (table : List (List ℕ)) (s : Schedule) (e : Entry) → Limits e → rate table (place s) e ≤ 65535 → rider table s e ≤ 10 ^ 15
 rider-bounded table s e l h = omega (arith, per-kwh-bounded (rate table (place s) e) (e .kwh) e h (l .kwh))
@@ -179,10 +180,11 @@ module _ (card : Values) (supply : rates-fit (card .supply) ≡ true) (low : rat
 
   pub keeps : Lawful (oregon-sheet card)
   keeps =
-      record
-        { nothing = λ line. cond-both (eqb line 12) (min (card .cap) (half-up 0)) (half-up 0) (λ x. x ≡ 0) (λ _. omega (arith, half-up-nothing)) (λ _. half-up-nothing)
-        ; rises = λ line m n h. capped-rises (eqb line 12) (card .cap) (half-up m) (half-up n) (half-up-rises m n h)
-        ; bounded = λ line n h. let u = half-up-bounded n h in cond-both (eqb line 12) (min (card .cap) (half-up n)) (half-up n) (λ x. x ≤ 2000000000) (λ _. omega arith) (λ _. u)
-        ; light = λ e line h. cond-both (isSome (check e)) 0 (on-schedule (schedule-of (e .schedule)) (λ s. metered card s e line)) (λ x. x ≤ 10 ^ 15) (λ _. omega arith) (λ _. on-bounded (schedule-of (e .schedule)) e (limits e h) line)
-        ; weightless = λ e line fault h. rw h
-        ; own = λ e fault h. own-fault (schedule-of (e .schedule)) e fault h }
+      record {
+        nothing = λ line. cond-both (eqb line 12) (min (card .cap) (half-up 0)) (half-up 0) (λ x. x ≡ 0) (λ _. omega (arith, half-up-nothing)) (λ _. half-up-nothing);
+        rises = λ line m n h. capped-rises (eqb line 12) (card .cap) (half-up m) (half-up n) (half-up-rises m n h);
+        bounded = λ line n h. let u = half-up-bounded n h in cond-both (eqb line 12) (min (card .cap) (half-up n)) (half-up n) (λ x. x ≤ 2000000000) (λ _. omega arith) (λ _. u);
+        light = λ e line h. cond-both (isSome (check e)) 0 (on-schedule (schedule-of (e .schedule)) (λ s. metered card s e line)) (λ x. x ≤ 10 ^ 15) (λ _. omega arith) (λ _. on-bounded (schedule-of (e .schedule)) e (limits e h) line);
+        weightless = λ e line fault h. rw h;
+        own = λ e fault h. own-fault (schedule-of (e .schedule)) e fault h;
+      }

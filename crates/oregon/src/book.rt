@@ -30,7 +30,11 @@ pub impl Book for Oregon as OregonBook {
     ghost meaning = { λ book. oregon-sheet (values (book .card)) };
 
     fn sense(&self, line: usize) -> Sense {
-        if line == 3 { Sense::Credit } else { Sense::Charge }
+        if line == 3 {
+            Sense::Credit
+        } else {
+            Sense::Charge
+        }
     }
 
     fn check(&self, reading: &Reading) -> Result<(), Fault> {
@@ -48,7 +52,11 @@ pub impl Book for Oregon as OregonBook {
 
     fn settle(&self, sum: u64, line: usize) -> u64 {
         let cents = half_up(sum);
-        if line == 12 { cents.min(u64::from(self.card.cap())) } else { cents }
+        if line == 12 {
+            cents.min(u64::from(self.card.cap()))
+        } else {
+            cents
+        }
     }
 }
 

@@ -86,7 +86,8 @@ fn small_load(entry: &Entry) -> u64
     ensures bound { λ r. ⌜ r ≤ 10 ^ 17 ⌝ }
 {
     let load = rates::LOAD_23 * over_15(entry.load, entry);
-    let demand = u64::from(rate(rates::DEMAND[2], entry)) * over_15(billed(Schedule::S23, entry), entry);
+    let demand = u64::from(rate(rates::DEMAND[2], entry))
+        * over_15(billed(Schedule::S23, entry), entry);
     (load + demand) * 1_000
 }
 
@@ -109,7 +110,11 @@ pub(crate) fn load_and_demand(schedule: Schedule, entry: &Entry) -> u64
     match schedule {
         Schedule::S4 | Schedule::S5 => three_phase(schedule, entry),
         Schedule::S23 => small_load(entry),
-        Schedule::S28 | Schedule::S728 => banded_load(schedule, rates::LOAD_28[band_28(entry.load)], entry),
+        Schedule::S28 | Schedule::S728 => banded_load(
+            schedule,
+            rates::LOAD_28[band_28(entry.load)],
+            entry,
+        ),
         Schedule::S29 => 0,
         Schedule::S730 => banded_load(schedule, rates::LOAD_730[band_730(entry.load)], entry),
     }
@@ -154,7 +159,12 @@ pub(crate) fn reactive(schedule: Schedule, entry: &Entry) -> u64
     ensures bound { λ r. ⌜ r ≤ 10 ^ 17 ⌝ }
 {
     let excess = (10 * u32::from(entry.kvar)).saturating_sub(4 * u32::from(kw(entry)));
-    per_kwh(rate(rates::REACTIVE[schedule.place()], entry), excess, entry) * 100
+    per_kwh(
+        rate(rates::REACTIVE[schedule.place()], entry),
+        excess,
+        entry,
+    )
+        * 100
 }
 
 // Transmission: by the kWh, or by the kW of billed demand.

@@ -18,7 +18,11 @@ pub(crate) type Rate = [u16; 2];
 pub(crate) fn rate(row: Rate, entry: &Entry) -> u16
     ensures { λ r. ⌜ r ≡ getD row (cond (primary-delivery (now (entry .entry))) 1 0) 0 ⌝ }
 {
-    if entry.primary_delivery() { row[1] } else { row[0] }
+    if entry.primary_delivery() {
+        row[1]
+    } else {
+        row[0]
+    }
 }
 
 // The factor that adjusts quantities metered at another voltage than delivered, in ten-thousandths.

@@ -59,7 +59,8 @@ impl Schedule {
     {
         match self {
             Schedule::S4 | Schedule::S5 => true,
-            Schedule::S23 | Schedule::S28 | Schedule::S29 | Schedule::S728 | Schedule::S730 => false,
+            Schedule::S23 | Schedule::S28 | Schedule::S29 | Schedule::S728 | Schedule::S730 =>
+                false,
         }
     }
 

@@ -12,6 +12,7 @@ mul-result-3 c = record { fits = omega (arith, bounded c) }
 
 pub returns : need.returns
 returns c =
-    record
-      { value = ap (λ units. units * 1000) (ap₂ (λ rate-kw factor. rate-kw * factor) (ap₂ (λ rate kw. rate * kw) (c .from .ensures) (c .from-2 .ensures)) (c .from-3 .ensures ∙ c .factor .ensures .value))
-      ; bound = omega (arith, bounded c) }
+    record {
+      value = ap (λ units. units * 1000) (ap₂ (λ rate-kw factor. rate-kw * factor) (ap₂ (λ rate kw. rate * kw) (c .from .ensures) (c .from-2 .ensures)) (c .from-3 .ensures ∙ c .factor .ensures .value));
+      bound = omega (arith, bounded c);
+    }

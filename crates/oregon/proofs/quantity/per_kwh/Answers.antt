@@ -12,6 +12,7 @@ mul-result-2 c = record { fits = omega (arith, bounded c) }
 
 pub returns : need.returns
 returns c =
-    record
-      { value = ap₂ (λ rate-kwh factor. rate-kwh * factor) (ap₂ (λ rate kwh. rate * kwh) (c .from .ensures) (c .from-2 .ensures)) (c .from-3 .ensures ∙ c .factor .ensures .value)
-      ; bound = omega (arith, bounded c) }
+    record {
+      value = ap₂ (λ rate-kwh factor. rate-kwh * factor) (ap₂ (λ rate kwh. rate * kwh) (c .from .ensures) (c .from-2 .ensures)) (c .from-3 .ensures ∙ c .factor .ensures .value);
+      bound = omega (arith, bounded c);
+    }

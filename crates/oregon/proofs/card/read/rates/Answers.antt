@@ -24,6 +24,6 @@ pub returns : need.returns
 returns c =
     let frame = held (c .args .frame .now) in
     let all =
-        fill-by-all (λ i. field frame (c .args .first + 4 * i) 2) (c .loop-i .rates) 7 0 (c .loop-i .inv .1)
-        (λ k below. c .loop-i .inv .0 k (omega arith)) in
+    fill-by-all (λ i. field frame (c .args .first + 4 * i) 2) (c .loop-i .rates) 7 0 (c .loop-i .inv .1)
+    (λ k below. c .loop-i .inv .0 k (omega arith)) in
     record { value = all; fit = ap rates-fit all ∙ fields-fit frame (c .args .first) (counting 0 7) (below-each frame (c .args .frame .now .fit)) }
