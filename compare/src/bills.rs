@@ -172,11 +172,14 @@ pub fn expect(input: &[u8], output: &mut impl Write) -> io::Result<()> {
     Ok(())
 }
 
-/// Lines end with a line feed; an unterminated last line counts.
+/// Lines end with a line feed, and a carriage return just before it is dropped; an unterminated last line counts.
 fn input_lines(input: &[u8]) -> impl Iterator<Item = &[u8]> {
     input
         .split_inclusive(|byte| *byte == b'\n')
-        .map(|line| line.strip_suffix(b"\n").unwrap_or(line))
+        .map(|line| match line.strip_suffix(b"\n") {
+            Some(ended) => ended.strip_suffix(b"\r").unwrap_or(ended),
+            None => line,
+        })
 }
 
 #[cfg(test)]
@@ -224,12 +227,13 @@ mod tests {
     fn refused_cards_and_bad_lines_are_numbered() {
         let input = format!(
             "\noregon,4,0,1000,0,0,0,0,100,0\n{CARD}\n\n\
-             oregon,4,0,0,0,0,0,0,100,0\n{CARD}\noregon,4,0,0,0,0,0,0,100,0\r\n"
+             oregon,4,0,0,0,0,0,0,100,0\n{CARD}\noregon,4,0,0,0,0,0,0,100,0\r\n\
+             oregon,4,0,0,0,0,0,0,100,0\r\r\n"
         );
         assert_eq!(
             expected(&input),
             "# line 1: \n# line 2: \n# line 4: \n950,0,0,0,0,0,0,0,0,0,0,0,0\n\
-             # line 6: \n# line 7: \n"
+             # line 6: \n950,0,0,0,0,0,0,0,0,0,0,0,0\n# line 8: \n"
         );
     }
 

@@ -5,7 +5,7 @@ use lib.IntN.{ℤ, pos, negsuc}
 use lib.ListN.{replicate}
 use Rattle.reading.specs.declared.entry.Entry.{Entry}
 use Rattle.book.specs.Meaning.{Meaning}
-use Rattle.oregon.specs.Layout.{Values}
+use Rattle.oregon_card.specs.Layout.{Values}
 use Rattle.oregon.specs.Sheet.{oregon-sheet}
 use Rattle.cooperative.specs.Schedule.{cooperative}
 use Rattle.cases.specs.Change.{Change}

@@ -23,12 +23,12 @@ use Rattle.reading.proofs.Within.{limits}
 use Rattle.book.specs.Meaning.{Lawful}
 use Rattle.book.specs.Money.{cent, half-up, rounded}
 use Rattle.book.proofs.Cents.{half-up-nothing, half-up-rises, half-up-bounded, rounded-bounded}
-use Rattle.oregon.specs.Layout.{Values, rates-fit}
+use Rattle.oregon_card.specs.Layout.{Values, rates-fit}
 use Rattle.oregon.specs.Rates.{energy-rates, transmission-rates, transmission-kw-rates, usage-rates, demand-rates, reactive-rates, rates-203, rates-204, rates-207, band-28, load-28, band-730, load-730}
-use Rattle.oregon.specs.Schedules.{schedule-of, place, unoffered, refusal, check}
+use Rattle.oregon_card.specs.Schedules.{schedule-of, place, unoffered, refusal, check}
 use Rattle.oregon.specs.Sheet.{rate, factor, per-kwh, per-kw, kw, billed, basic, three-phase-demand, over-15, load-demand, block, block-energy, energy, credit, reactive, transmission, usage, floor, at-card, rider, exact, metered, on-schedule, weight, settle, oregon-sheet}
-use Rattle.oregon.specs.declared.schedule.Schedule.{Schedule}
-use Rattle.oregon.specs.declared.schedule.Schedule.the-variants.{S4, S5, S23, S28, S29, S728, S730}
+use Rattle.oregon_card.specs.declared.schedule.Schedule.{Schedule}
+use Rattle.oregon_card.specs.declared.schedule.Schedule.the-variants.{S4, S5, S23, S28, S29, S728, S730}
 use Rattle.oregon.proofs.Products.{three-bounded}
 use Rattle.oregon.proofs.Tables.{kw-rates, kwh-rates, floors-bounded}
 

@@ -1,4 +1,3 @@
-pub mod Cards
 pub mod Laws
 pub mod Products
 pub mod Tables

@@ -15,11 +15,11 @@ use Rattle.book.specs.Meaning.{Meaning}
 use Rattle.book.specs.Money.{cent, half-up, rounded}
 use Rattle.book.specs.declared.sense.Sense.{Sense}
 use Rattle.book.specs.declared.sense.Sense.the-variants.{Charge, Credit}
-use Rattle.oregon.specs.Layout.{Values}
+use Rattle.oregon_card.specs.Layout.{Values}
 use Rattle.oregon.specs.Rates.{energy-rates, transmission-rates, transmission-kw-rates, usage-rates, demand-rates, reactive-rates, rates-203, rates-204, rates-207, floors, band-28, basic-28, load-28, band-730, basic-730, load-730}
-use Rattle.oregon.specs.Schedules.{schedule-of, place, check}
-use Rattle.oregon.specs.declared.schedule.Schedule.{Schedule}
-use Rattle.oregon.specs.declared.schedule.Schedule.the-variants.{S4, S5, S23, S28, S29, S728, S730}
+use Rattle.oregon_card.specs.Schedules.{schedule-of, place, check}
+use Rattle.oregon_card.specs.declared.schedule.Schedule.{Schedule}
+use Rattle.oregon_card.specs.declared.schedule.Schedule.the-variants.{S4, S5, S23, S28, S29, S728, S730}
 
 -- A rate of a table, by its row and the voltage of delivery.
 abbrev pub rate : List (List ℕ) → ℕ → Entry → ℕ

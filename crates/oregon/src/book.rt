@@ -2,14 +2,14 @@
 ghost use mathlib.Core.Path.{_≡_};
 ghost use Prim.Native.Nat.{_^_, _≤_};
 ghost use Rattle.reading.specs.Limits.{Limits};
-ghost use Rattle.oregon.specs.Reply.{values};
+ghost use Rattle.oregon_card.specs.Reply.{values};
 ghost use Rattle.oregon.specs.Sheet.{exact as exact-on, metered as metered-on, oregon-sheet};
-use crate::card::Card;
+use oregon_card::Card;
 use crate::charges;
 use crate::charges::by_kwh;
 use crate::quantity::per_kwh;
 use crate::rates;
-use crate::schedule::Schedule;
+use oregon_card::Schedule;
 use book::Book;
 use book::Sense;
 use book::half_up;

@@ -7,7 +7,7 @@ ghost use Rattle.reading.specs.Limits.{Limits};
 ghost use Rattle.reading.specs.Flags.{primary-delivery};
 ghost use Rattle.oregon.specs.Sheet.{factor as factor-of, kw as kw-of, billed as billed-on, per-kwh, per-kw};
 use crate::rates::FLOORS;
-use crate::schedule::Schedule;
+use oregon_card::Schedule;
 use reading::Entry;
 use reading::nearest_kw;
 

@@ -1,4 +1,4 @@
-use Rattle.oregon.specs.Reply.{values}
+use Rattle.oregon_card.specs.Reply.{values}
 use Rattle.oregon.proofs.Laws.{keeps}
 use Rattle.oregon.proofs.book.OregonBook.the-impl.Needs as need
 

@@ -1,4 +1,4 @@
-use Rattle.oregon.specs.Reply.{values}
+use Rattle.oregon_card.specs.Reply.{values}
 use Rattle.oregon.proofs.Laws.{weight-served}
 use Rattle.oregon.proofs.book.OregonBook.weight.Needs as need
 

@@ -8,8 +8,8 @@ use Rattle.frame.specs.Line.{bytes-of}
 use Rattle.frame.specs.Tests.{first}
 use Rattle.answer.specs.Answers.{answer-line}
 use Rattle.answer.specs.declared.answer.Answer.the-variants.{CardAccepted, Refused}
-use Rattle.oregon.specs.declared.card.Card.{Card}
-use Rattle.oregon.specs.Layout.{Values, values-in, card-tests}
+use Rattle.oregon_card.specs.declared.card.Card.{Card}
+use Rattle.oregon_card.specs.Layout.{Values, values-in, card-tests}
 
 -- A card in memory.
 abbrev pub values : Card → Values

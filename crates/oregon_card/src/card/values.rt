@@ -2,8 +2,8 @@
 ghost use mathlib.Core.Path.{_≡_};
 ghost use Prim.Native.Nat.{_≤_};
 ghost use lib.ListN.{getD};
-ghost use Rattle.oregon.specs.Reply.{values};
-ghost use Rattle.oregon.specs.Schedules.{place};
+ghost use Rattle.oregon_card.specs.Reply.{values};
+ghost use Rattle.oregon_card.specs.Schedules.{place};
 use crate::card::Card;
 use crate::schedule::Schedule;
 

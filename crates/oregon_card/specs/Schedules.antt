@@ -8,8 +8,8 @@ use Rattle.reading.specs.Flags.{primary-delivery, primary-metering, multi-famil
 use Rattle.reading.specs.declared.entry.Entry.{Entry}
 use Rattle.reading.specs.declared.fault.Fault.{Fault}
 use Rattle.reading.specs.declared.fault.Fault.the-variants as fault
-use Rattle.oregon.specs.declared.schedule.Schedule.{Schedule}
-use Rattle.oregon.specs.declared.schedule.Schedule.the-variants.{S4, S5, S23, S28, S29, S728, S730}
+use Rattle.oregon_card.specs.declared.schedule.Schedule.{Schedule}
+use Rattle.oregon_card.specs.declared.schedule.Schedule.the-variants.{S4, S5, S23, S28, S29, S728, S730}
 
 -- The schedule of a number.
 abbrev pub schedule-of : ℕ → Option Schedule

@@ -3,8 +3,8 @@ use Rattle.std.specs.declared.option.Option.the-variants.{Some}
 use Rattle.std.specs.declared.result.Result.the-variants.{Ok}
 use Rattle.frame.specs.Line.{bytes-of}
 use Rattle.frame.specs.Written.{Written}
-use Rattle.oregon.specs.Reply.{reply-line, given}
-use Rattle.oregon.proofs.card.read.take_card.Needs as need
+use Rattle.oregon_card.specs.Reply.{reply-line, given}
+use Rattle.oregon_card.proofs.card.read.take_card.Needs as need
 
 pub returns-in-Continue-write : need.returns-in-Continue-write
 returns-in-Continue-write c =

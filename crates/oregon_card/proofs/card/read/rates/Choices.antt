@@ -3,7 +3,7 @@ use Prim.Native.Nat.{ℕ, _+_, _*_, _<_}
 use lib.ListN.{getD, length}
 use Rattle.frame.specs.Held.{held}
 use Rattle.frame.specs.Seal.{field}
-use Rattle.oregon.proofs.card.read.rates.Given as given
+use Rattle.oregon_card.proofs.card.read.rates.Given as given
 
 abbrev pub Inv-loop-i : given.InvT-loop-i
 Inv-loop-i l =

@@ -2,9 +2,9 @@ use mathlib.Core.Path.{ap, _∙_}
 use Rattle.std.proofs.shelf.Results.{err-from-errBy}
 use Rattle.frame.specs.Held.{held}
 use Rattle.frame.proofs.Firsts.{line-stops, kind-stops, payload-stops, fields-decide}
-use Rattle.oregon.specs.Layout.{card-length, card-field-tests, values-in}
-use Rattle.oregon.proofs.Cards.{no-card, card-named, cap-stops, cap-passes, same-values}
-use Rattle.oregon.proofs.card.Card.read.Needs as need
+use Rattle.oregon_card.specs.Layout.{card-length, card-field-tests, values-in}
+use Rattle.oregon_card.proofs.Cards.{no-card, card-named, cap-stops, cap-passes, same-values}
+use Rattle.oregon_card.proofs.card.Card.read.Needs as need
 
 pub returns-in-Break-frame : need.returns-in-Break-frame
 returns-in-Break-frame c =

@@ -2,7 +2,7 @@
 ghost use mathlib.Core.Bool.{true};
 ghost use mathlib.Core.Path.{_≡_};
 ghost use Prim.Native.Nat.{_≤_};
-ghost use Rattle.oregon.specs.Layout.{rates-fit};
+ghost use Rattle.oregon_card.specs.Layout.{rates-fit};
 
 mod read;
 mod values;

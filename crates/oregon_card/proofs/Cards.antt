@@ -12,7 +12,7 @@ use Rattle.reading.specs.declared.fault.Fault.the-variants.{Kind, Limit}
 use Rattle.frame.specs.Seal.{kind-of, field}
 use Rattle.frame.specs.Tests.{first, kind-test}
 use Rattle.frame.proofs.Numbers.{field-below}
-use Rattle.oregon.specs.Layout.{Values, rates-fit, card-length, card-field-tests}
+use Rattle.oregon_card.specs.Layout.{Values, rates-fit, card-length, card-field-tests}
 
 other-kind : (byte : ℕ) → (byte ≡ 16 → ⊥) → card-length byte ≡ None
 other-kind byte other = grind (arith, tells)

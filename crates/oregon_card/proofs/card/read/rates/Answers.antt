@@ -8,9 +8,9 @@ use Rattle.std.proofs.shelf.Edits.{fill-by-more}
 use Rattle.frame.specs.Held.{held}
 use Rattle.frame.specs.Seal.{field}
 use Rattle.frame.proofs.Bytes.{below-each}
-use Rattle.oregon.specs.Layout.{rates-fit}
-use Rattle.oregon.proofs.Cards.{fields-fit}
-use Rattle.oregon.proofs.card.read.rates.Needs as need
+use Rattle.oregon_card.specs.Layout.{rates-fit}
+use Rattle.oregon_card.proofs.Cards.{fields-fit}
+use Rattle.oregon_card.proofs.card.read.rates.Needs as need
 
 pub loop-i-again : need.loop-i-again
 loop-i-again c =

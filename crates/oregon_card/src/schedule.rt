@@ -3,7 +3,7 @@ ghost use mathlib.Core.Path.{_≡_};
 ghost use Rattle.std.specs.Results.{errPart};
 ghost use Rattle.std.specs.Vec.{made};
 ghost use Rattle.std.specs.declared.option.Option.the-variants.{Some};
-ghost use Rattle.oregon.specs.Schedules.{schedule-of, place as place-of, offers-voltage, offers-multi-family, unoffered as unoffered-on, check};
+ghost use Rattle.oregon_card.specs.Schedules.{schedule-of, place as place-of, offers-voltage, offers-multi-family, unoffered as unoffered-on, check};
 use reading::Entry;
 use reading::Fault;
 
@@ -37,7 +37,7 @@ impl Schedule {
     }
 
     // Its place in the rate tables.
-    pub(crate) fn place(self) -> usize
+    pub fn place(self) -> usize
         ensures { λ r. ⌜ r ≡ place-of self ⌝ }
     {
         self as usize
@@ -73,7 +73,7 @@ impl Schedule {
     }
 
     // The schedule of an entry that the book serves.
-    pub(crate) fn serving(entry: &Entry) -> Result<Schedule, Fault>
+    pub fn serving(entry: &Entry) -> Result<Schedule, Fault>
         ensures refused { λ r. ⌜ errPart r ≡ check (now (entry .entry)) ⌝ }
         ensures value { λ r. ⌜ made r (λ s. schedule-of (now (entry .entry) .schedule) ≡ Some s) ⌝ }
     {
