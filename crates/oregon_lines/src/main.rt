@@ -1,6 +1,6 @@
 // The tariff block by Oregon's sheets: lines on standard input, one answer line for each on standard output.
 use line_buffer::LineBuffer;
-use oregon::take_card;
+use oregon_card::take_card;
 use std::io;
 use std::io::Read;
 use std::io::Write;
