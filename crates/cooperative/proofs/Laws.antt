@@ -1,23 +1,21 @@
 -- The cooperative's book keeps the laws of a book.
-use mathlib.Core.Path.{_≡_, refl, ap, subst, sym}
-use mathlib.Core.Bool.{Bool, true, false, cond, not}
-use Prim.Native.Nat.{ℕ, zero, suc, _+_, _-_, _*_, _^_, _≤_, min}
+use mathlib.Core.Path.{_≡_}
+use mathlib.Core.Bool.{Bool, true, false, cond}
+use Prim.Native.Nat.{ℕ, zero, suc, _-_, _*_, _^_, _≤_}
 use native.Mathlib.Omega.{arith}
 use Rattle.std.specs.Options.{isSome}
 use Rattle.std.specs.declared.option.Option.{Option}
-use Rattle.std.specs.declared.option.Option.the-variants.{None, Some}
+use Rattle.std.specs.declared.option.Option.the-variants.{Some}
 use Rattle.std.proofs.shelf.Bits.{mul-le}
 use Rattle.std.proofs.shelf.Ways.{tells}
-use Rattle.reading.specs.Limits.{lawful, Limits}
-use Rattle.reading.specs.Refusal.{layer-of}
+use Rattle.reading.specs.Limits.{Limits}
 use Rattle.reading.specs.declared.entry.Entry.{Entry}
 use Rattle.reading.specs.declared.fault.Fault.{Fault}
-use Rattle.reading.specs.declared.fault.Layer.the-variants.{Book}
 use Rattle.reading.proofs.Within.{limits}
 use Rattle.book.specs.Meaning.{Lawful}
 use Rattle.book.specs.Money.{rounded}
 use Rattle.book.proofs.Cents.{half-up-nothing, half-up-rises, half-up-bounded, rounded-bounded}
-use Rattle.cooperative.specs.Schedule.{check, exact, weight, power-factor, cooperative}
+use Rattle.cooperative.specs.Schedule.{check, exact, power-factor, cooperative}
 
 -- The dearest power factor.
 pub power-factor-bounded : (e : Entry) → Limits e → power-factor e ≤ 10 ^ 15

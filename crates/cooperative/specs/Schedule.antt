@@ -1,6 +1,6 @@
 -- The cooperative's industrial schedule: five statement lines, each rounded half up to a cent at the meter.
 use mathlib.Core.Bool.{cond, not}
-use mathlib.Core.List.{List, [], _∷_}
+use mathlib.Core.List.{[], _∷_}
 use Prim.Native.Nat.{ℕ, _+_, _-_, _*_, min}
 use lib.Dec.{eqb}
 use lib.ListN.{getD}

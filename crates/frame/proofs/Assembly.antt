@@ -1,11 +1,11 @@
 -- A frame put together at the front of some bytes.
-use mathlib.Core.Path.{_≡_, refl, sym, ap, subst, _∙_}
+use mathlib.Core.Path.{_≡_, sym, ap, subst, _∙_}
 use mathlib.Core.List.{List, [], _∷_, _++_}
-use Prim.Native.Nat.{ℕ, suc, _+_, _-_, _%_, _<_, _≤_}
+use Prim.Native.Nat.{ℕ, suc, _+_, _-_, _<_, _≤_}
 use native.Mathlib.Omega.{arith}
 use borrow.Rule.Slice.PartMut.{putMid}
 use lib.ListN.{length, getD, set, take, drop}
-use Rattle.std.specs.shelf.Lists.{sum, All}
+use Rattle.std.specs.shelf.Lists.{All}
 use Rattle.std.proofs.shelf.Lists.{drop-more, drop-all, set-at, take-at, take-append-drop, append-assoc, length-append, length-take-le}
 use Rattle.std.proofs.shelf.Elements.{all-getD, all-append}
 use Rattle.std.proofs.shelf.Sums.{sumBy-push}

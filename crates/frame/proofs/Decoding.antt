@@ -1,11 +1,11 @@
 -- The steps of reading a line two characters at a time.
-use mathlib.Core.Path.{_≡_, refl, sym, ap, _∙_}
+use mathlib.Core.Path.{_≡_, sym, ap, _∙_}
 use mathlib.Core.Bool.{not}
 use mathlib.Core.List.{List, [], _∷_, _++_}
-use Prim.Native.Nat.{ℕ, _+_, _*_, _/_, _%_, _<_, _≤_}
+use Prim.Native.Nat.{ℕ, _+_, _*_, _<_, _≤_}
 use native.Mathlib.Omega.{arith}
 use lib.ListN.{length, getD, set, take, drop}
-use Rattle.std.specs.Options.{isSome, valueOr}
+use Rattle.std.specs.Options.{isSome}
 use Rattle.std.proofs.shelf.Lists.{drop-all, take-more-set, append-assoc, append-nil}
 use Rattle.std.specs.declared.option.Option.the-variants.{None, Some}
 use Rattle.reading.specs.declared.fault.Fault.{Fault}

@@ -1,5 +1,5 @@
 -- The tests of a line, at lines that pass and at lines that do not.
-use mathlib.Core.Path.{_≡_, refl, sym, ap, _∙_}
+use mathlib.Core.Path.{_≡_}
 use mathlib.Core.Bool.{true, not, _||_}
 use mathlib.Core.List.{List}
 use Prim.Native.Nat.{ℕ, _+_, _*_, _%_, _<_, _≤_}
@@ -11,7 +11,7 @@ use Rattle.std.proofs.shelf.Tests.{eq-eqb}
 use Rattle.std.specs.shelf.Lists.{sum}
 use Rattle.std.specs.declared.option.Option.the-variants.{None, Some}
 use Rattle.reading.specs.declared.fault.Fault.the-variants.{Buffer, LineLength, PayloadLength}
-use Rattle.frame.specs.Line.{spelled, bytes-of}
+use Rattle.frame.specs.Line.{bytes-of}
 use Rattle.frame.specs.Seal.{Sealed, all-bytes, carries, length-byte}
 use Rattle.frame.specs.Tests.{when, first, buffer-test, length-test, digit-test, sum-test, line-tests, Reads-back}
 use Rattle.frame.proofs.Spelling.{length-spelled, bytes-spelled, digits-spelled}

@@ -1,10 +1,10 @@
 -- The front of a line that is kept.
-use mathlib.Core.Path.{_≡_, sym, ap, subst, _∙_}
+use mathlib.Core.Path.{_≡_, sym, ap, _∙_}
 use mathlib.Core.List.{List, [], _∷_, _++_}
 use Prim.Native.Nat.{ℕ, _+_, _<_, _≤_, min}
 use native.Mathlib.Omega.{arith}
 use lib.ListN.{length, set, take}
-use Rattle.std.proofs.shelf.Lists.{take-more-set, take-all, take-at, take-append-le, length-take, length-take-le, length-append}
+use Rattle.std.proofs.shelf.Lists.{take-more-set, take-all, take-at, length-take, length-take-le, length-append}
 use Rattle.std.proofs.shelf.Ways.{tells}
 use Rattle.std.specs.declared.option.Option.the-variants.{Some}
 use Rattle.reading.specs.declared.fault.Fault.the-variants.{LineLength}

@@ -12,8 +12,8 @@ use Rattle.std.specs.declared.option.Option.the-variants.{None, Some}
 use Rattle.std.proofs.shelf.Bits.{mul-le}
 use Rattle.std.proofs.shelf.Tests.{and-parts, leb-true, cond-both}
 use Rattle.std.proofs.shelf.Ways.{tells}
-use Rattle.reading.specs.Flags.{primary-delivery, primary-metering, three-phase, multi-family}
-use Rattle.reading.specs.Limits.{lawful, Limits}
+use Rattle.reading.specs.Flags.{three-phase}
+use Rattle.reading.specs.Limits.{Limits}
 use Rattle.reading.specs.Refusal.{layer-of}
 use Rattle.reading.specs.declared.entry.Entry.{Entry}
 use Rattle.reading.specs.declared.fault.Fault.{Fault}
@@ -26,7 +26,7 @@ use Rattle.book.proofs.Cents.{half-up-nothing, half-up-rises, half-up-bounded, 
 use Rattle.oregon_card.specs.Layout.{Values, rates-fit}
 use Rattle.oregon.specs.Rates.{energy-rates, transmission-rates, transmission-kw-rates, usage-rates, demand-rates, reactive-rates, rates-203, rates-204, rates-207, band-28, load-28, band-730, load-730}
 use Rattle.oregon_card.specs.Schedules.{schedule-of, place, unoffered, refusal, check}
-use Rattle.oregon.specs.Sheet.{rate, factor, per-kwh, per-kw, kw, billed, basic, three-phase-demand, over-15, load-demand, block, block-energy, energy, credit, reactive, transmission, usage, floor, at-card, rider, exact, metered, on-schedule, weight, settle, oregon-sheet}
+use Rattle.oregon.specs.Sheet.{rate, factor, per-kwh, per-kw, kw, billed, basic, three-phase-demand, over-15, load-demand, has-block, block, energy, credit, reactive, transmission, floor, at-card, rider, exact, metered, on-schedule, weight, oregon-sheet}
 use Rattle.oregon_card.specs.declared.schedule.Schedule.{Schedule}
 use Rattle.oregon_card.specs.declared.schedule.Schedule.the-variants.{S4, S5, S23, S28, S29, S728, S730}
 use Rattle.oregon.proofs.Products.{three-bounded}
@@ -88,27 +88,16 @@ load-demand-bounded S29 e l = omega arith
 load-demand-bounded S728 e l = banded-bounded S728 (rate load-28 (band-28 (e .load)) e) e l (kw-rates .1 .1 .1 .0 (band-28 (e .load)) e)
 load-demand-bounded S730 e l = banded-bounded S730 (rate load-730 (band-730 (e .load)) e) e l (kw-rates .1 .1 .1 .1 .0 (band-730 (e .load)) e)
 
--- A rate for some of the kWh.
-part-bounded : (r kwh most : ℕ) (e : Entry) → r ≤ most → kwh ≤ 999999 → per-kwh r kwh e ≤ most * 999999 * 10157
-part-bounded r kwh most e p q = three-bounded r kwh (factor e) most 999999 10157 p q (factor-bounded e)
-
-block-energy-bounded : (s : Schedule) (e : Entry) → Limits e → block-energy s e ≤ 18940 * 999999 * 10157
-block-energy-bounded S29 e l = part-bounded 18940 (block e) 18940 e (omega arith) (omega arith)
-block-energy-bounded S4 e l = omega arith
-block-energy-bounded S5 e l = omega arith
-block-energy-bounded S23 e l = omega arith
-block-energy-bounded S28 e l = omega arith
-block-energy-bounded S728 e l = omega arith
-block-energy-bounded S730 e l = omega arith
+energy-bounded : (s : Schedule) (e : Entry) → Limits e → energy s e ≤ 10 ^ 15
+energy-bounded s e l =
+    cond-both (has-block s) (per-kwh 18940 (block e) e) (per-kwh (rate energy-rates (place s) e) (e .kwh) e) (λ x. x ≤ 10 ^ 15)
+    (λ _. omega (arith, per-kwh-bounded 18940 (block e) e (omega arith) (omega arith)))
+    (λ _. omega (arith, per-kwh-bounded (rate energy-rates (place s) e) (e .kwh) e (kwh-rates .0 (place s) e) (l .kwh)))
 
 credit-bounded : (s : Schedule) (e : Entry) → Limits e → credit s e ≤ 10 ^ 15
-credit-bounded S29 e l = omega (arith, part-bounded 1335 (e .kwh - block e) 1335 e (omega arith) (omega arith))
-credit-bounded S4 e l = omega arith
-credit-bounded S5 e l = omega arith
-credit-bounded S23 e l = omega arith
-credit-bounded S28 e l = omega arith
-credit-bounded S728 e l = omega arith
-credit-bounded S730 e l = omega arith
+credit-bounded s e l =
+    cond-both (has-block s) (per-kwh 1335 (e .kwh - block e) e) 0 (λ x. x ≤ 10 ^ 15)
+    (λ _. omega (arith, per-kwh-bounded 1335 (e .kwh - block e) e (omega arith) (omega arith))) (λ _. omega arith)
 
 reactive-bounded : (s : Schedule) (e : Entry) → Limits e → reactive s e ≤ 10 ^ 15
 reactive-bounded s e l =
@@ -155,8 +144,7 @@ module _ (card : Values) (supply : rates-fit (card .supply) ≡ true) (low : rat
   exact-bounded : (s : Schedule) (e : Entry) → Limits e → (line : ℕ) → exact card s e line ≤ 10 ^ 15
   exact-bounded s e l zero = omega (arith, basic-bounded s e)
   exact-bounded s e l (suc zero) = load-demand-bounded s e l
-  exact-bounded s e l (suc (suc zero)) =
-      omega (arith, per-kwh-bounded (rate energy-rates (place s) e) (e .kwh) e (kwh-rates .0 (place s) e) (l .kwh), block-energy-bounded s e l)
+  exact-bounded s e l (suc (suc zero)) = energy-bounded s e l
   exact-bounded s e l (suc (suc (suc zero))) = credit-bounded s e l
   exact-bounded s e l (suc (suc (suc (suc zero)))) = reactive-bounded s e l
   exact-bounded s e l (suc (suc (suc (suc (suc zero))))) = transmission-bounded s e l

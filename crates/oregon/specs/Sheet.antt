@@ -1,6 +1,6 @@
 -- What a reading costs by Oregon's sheets, line by line. Amounts are in units: a kWh at a thousandth of a cent and a
 -- ten-thousandth of the factor is one unit, and a cent is 10,000,000.
-use mathlib.Core.Bool.{cond}
+use mathlib.Core.Bool.{Bool, true, false, cond}
 use mathlib.Core.List.{List, [], _∷_}
 use Prim.Native.Nat.{ℕ, _+_, _-_, _*_, max, min}
 use lib.Dec.{eqb, ltb}
@@ -72,32 +72,26 @@ load-demand S29 e = 0
 load-demand S728 e = per-kw (rate load-28 (band-28 (e .load)) e) (e .load) e + per-kw (rate demand-rates (place S728) e) (billed S728 e) e
 load-demand S730 e = per-kw (rate load-730 (band-730 (e .load)) e) (e .load) e + per-kw (rate demand-rates (place S730) e) (billed S730 e) e
 
--- The block of schedule 29: the first 50 kWh for each kW of billed demand.
+-- Schedule 29 pays by a block: the first 50 kWh for each kW of billed demand.
+abbrev pub has-block : Schedule → Bool
+has-block S4 = false
+has-block S5 = false
+has-block S23 = false
+has-block S28 = false
+has-block S29 = true
+has-block S728 = false
+has-block S730 = false
+
 abbrev pub block : Entry → ℕ
 block e = min (e .kwh) (50 * billed S29 e)
 
--- Line 2, energy. Schedule 29, whose rate in the table is 0, pays 18.94 cents for each kWh of its block.
-abbrev pub block-energy : Schedule → Entry → ℕ
-block-energy S29 e = per-kwh 18940 (block e) e
-block-energy S4 e = 0
-block-energy S5 e = 0
-block-energy S23 e = 0
-block-energy S28 e = 0
-block-energy S728 e = 0
-block-energy S730 e = 0
-
+-- Line 2, energy: schedule 29 pays 18.94 cents for each kWh of its block.
 abbrev pub energy : Schedule → Entry → ℕ
-energy s e = per-kwh (rate energy-rates (place s) e) (e .kwh) e + block-energy s e
+energy s e = cond (has-block s) (per-kwh 18940 (block e) e) (per-kwh (rate energy-rates (place s) e) (e .kwh) e)
 
 -- Line 3, credit: schedule 29 gets 1.335 cents for each kWh past its block.
 abbrev pub credit : Schedule → Entry → ℕ
-credit S29 e = per-kwh 1335 (e .kwh - block e) e
-credit S4 e = 0
-credit S5 e = 0
-credit S23 e = 0
-credit S28 e = 0
-credit S728 e = 0
-credit S730 e = 0
+credit s e = cond (has-block s) (per-kwh 1335 (e .kwh - block e) e) 0
 
 -- Line 4, reactive power: for each kvar over 40 percent of the demand in kW, as adjusted. The excess is in tenths.
 abbrev pub reactive : Schedule → Entry → ℕ

@@ -1,16 +1,13 @@
 -- The reading of a frame that passes the tests of its fields.
-use mathlib.Core.Path.{_≡_, refl, sym, ap, subst, _∙_}
-use mathlib.Core.Bool.{true, _&&_}
-use mathlib.Core.List.{List, [], _∷_, map}
-use Prim.Native.Nat.{ℕ, _+_, _*_, _<_, _≤_}
+use mathlib.Core.Path.{_≡_, sym, ap, subst}
+use mathlib.Core.Bool.{true}
+use mathlib.Core.List.{List, _∷_}
+use Prim.Native.Nat.{ℕ, _<_, _≤_}
 use native.Mathlib.Omega.{arith}
-use lib.Dec.{leb, ltb}
-use Rattle.std.specs.Iters.{counting}
 use Rattle.std.specs.shelf.Lists.{All}
 use Rattle.std.proofs.shelf.Tests.{and-from, le-leb, lt-ltb, le-ltb}
 use Rattle.std.proofs.shelf.Ways.{tells}
 use Rattle.std.proofs.shelf.Elements.{all-weaker}
-use Rattle.std.specs.declared.option.Option.{Option}
 use Rattle.std.specs.declared.option.Option.the-variants.{None, Some}
 use Rattle.reading.specs.Demand.{kw-nearest, load-of}
 use Rattle.reading.specs.Limits.{lawful}
@@ -20,7 +17,7 @@ use Rattle.reading.proofs.Greatest.{load-bound}
 use Rattle.frame.specs.Seal.{field}
 use Rattle.frame.specs.Tests.{or-else}
 use Rattle.frame.proofs.Firsts.{passes}
-use Rattle.request.specs.Fields.{limit, entry-in, earlier-in, earlier-limits, reading-limits}
+use Rattle.request.specs.Fields.{entry-in, earlier-in, reading-limits}
 use Rattle.request.specs.Tests.{limit-test, excess-test}
 use Rattle.request.proofs.Limits.{all-within}
 

@@ -6,7 +6,6 @@ use Rattle.reading.specs.Demand.{kw-nearest, load-of}
 use Rattle.reading.specs.declared.entry.Entry.{Entry}
 use Rattle.reading.specs.declared.site_month.SiteMonth.{SiteMonth}
 use Rattle.frame.specs.Seal.{field}
-use Rattle.frame.specs.declared.frame.parts.Field.{Field}
 use Rattle.request.specs.declared.limit.Limit.{Limit}
 use Rattle.request.specs.declared.kind.RequestKind.{RequestKind}
 use Rattle.request.specs.declared.kind.RequestKind.the-variants.{Post, Cancel, Correct, Close, Account}

@@ -1,8 +1,8 @@
 // Reading a line as a frame.
 ghost use mathlib.Core.Path.{_≡_};
 ghost use mathlib.Core.Bool.{not};
-ghost use Prim.Native.Nat.{ℕ, _+_, _*_, _/_, _%_, _<_, _≤_};
-ghost use lib.ListN.{length, take, drop, getD};
+ghost use Prim.Native.Nat.{_+_, _*_, _/_, _%_, _<_, _≤_};
+ghost use lib.ListN.{length, take, getD};
 ghost use Rattle.std.specs.Results.{errPart};
 ghost use Rattle.std.specs.Vec.{made};
 ghost use Rattle.std.specs.Options.{isSome};
@@ -11,7 +11,7 @@ ghost use Rattle.reading.specs.declared.fault.Fault.the-variants.{Digit};
 ghost use Rattle.std.specs.shelf.Lists.{sum};
 ghost use Rattle.frame.specs.Digit.{value-of};
 ghost use Rattle.frame.specs.Line.{spelled, bytes-of};
-ghost use Rattle.frame.specs.Tests.{first, length-test, digit-test, line-tests, when};
+ghost use Rattle.frame.specs.Tests.{first, digit-test, line-tests, when};
 ghost use Rattle.frame.specs.Held.{held};
 use crate::digit::value_of;
 use crate::frame::Frame;

@@ -1,6 +1,5 @@
 // What a card says.
 ghost use mathlib.Core.Path.{_≡_};
-ghost use Prim.Native.Nat.{_≤_};
 ghost use lib.ListN.{getD};
 ghost use Rattle.oregon_card.specs.Reply.{values};
 ghost use Rattle.oregon_card.specs.Schedules.{place};

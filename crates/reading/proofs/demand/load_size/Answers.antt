@@ -1,7 +1,5 @@
-use borrow.Author.Needs.{needs}
 use mathlib.Core.Path.{sym, ap, _∙_}
 use mathlib.Core.List.{_∷_}
-use Prim.Native.Nat.{_+_, _/_}
 use Rattle.std.proofs.shelf.Lists.{take-all}
 use Rattle.reading.specs.Demand.{greatest, second-greatest}
 use Rattle.reading.proofs.Greatest.{greatest-more, second-more, load-alone, load-average}

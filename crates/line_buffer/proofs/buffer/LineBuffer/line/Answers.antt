@@ -2,7 +2,6 @@ use mathlib.Core.Path.{_≡_, ap, _∙_}
 use Prim.Native.Nat.{_-_}
 use native.Mathlib.Omega.{arith}
 use lib.ListN.{take}
-use Rattle.line_buffer.specs.Received.{received}
 use Rattle.line_buffer.proofs.Fronts.{stands}
 use Rattle.line_buffer.proofs.buffer.LineBuffer.line.Needs as need
 
