@@ -16,8 +16,8 @@ use crate::quantity::per_kw;
 use crate::quantity::per_kwh;
 use crate::quantity::rate;
 use crate::rates;
-use oregon_card::Schedule;
 use book::half_up;
+use oregon_card::Schedule;
 use reading::Entry;
 
 const CENT: u64 = 10_000_000;
