@@ -257,7 +257,7 @@ fn check_answer(case: &Case, buffer: &mut [u8]) -> Result<(), Fail> {
         Ok(reply) => {
             let taken = case.answer.len() == ACCEPTED.len();
             check_eq(
-                (reply.length, reply.card.is_some()),
+                (reply.length, reply.card.is_ok()),
                 (case.answer.len(), taken),
             )?;
             check_written(buffer, case.answer)

@@ -3,6 +3,8 @@ use mathlib.Core.List.{List}
 use Prim.Native.Nat.{ℕ}
 use Rattle.std.specs.declared.option.Option.{Option}
 use Rattle.std.specs.declared.option.Option.the-variants.{None, Some}
+use Rattle.std.specs.declared.result.Result.{Result}
+use Rattle.std.specs.declared.result.Result.the-variants.{Ok, Err}
 use Rattle.reading.specs.declared.fault.Fault.{Fault}
 use Rattle.frame.specs.Line.{bytes-of}
 use Rattle.frame.specs.Tests.{first}
@@ -20,13 +22,13 @@ abbrev pub reply-line : Option Fault → List ℕ
 reply-line None = answer-line CardAccepted
 reply-line (Some fault) = answer-line (Refused fault)
 
--- The card of a frame where no test fits.
-abbrev pub given : Option Fault → List ℕ → Option Values
-given None frame = Some (values-in frame)
-given (Some fault) frame = None
+-- The card of a frame where no test fits, else the refusal.
+abbrev pub given : Option Fault → List ℕ → Result Values Fault
+given None frame = Ok (values-in frame)
+given (Some fault) frame = Err fault
 
 abbrev pub card-line : List ℕ → List ℕ
 card-line line = reply-line (first (card-tests line))
 
-abbrev pub card-on : List ℕ → Option Values
+abbrev pub card-on : List ℕ → Result Values Fault
 card-on line = given (first (card-tests line)) (bytes-of line)

@@ -55,7 +55,7 @@ fn answer(rt: &LibcRuntime, line: &[u8]) -> io::Result<bool> {
         Ok(reply) => {
             buffer[reply.length] = b'\n';
             rt.stdout().write_all(&buffer[0..reply.length + 1])?;
-            Ok(reply.card.is_some())
+            Ok(reply.card.is_ok())
         }
         Err(_) => unreachable(),
     }

@@ -5,7 +5,6 @@ ghost use mathlib.Core.List.{map};
 ghost use Prim.Native.Nat.{_+_, _*_, _≤_};
 ghost use lib.ListN.{length};
 ghost use Rattle.std.specs.Iters.{counting};
-ghost use Rattle.std.specs.Options.{mapped as mapped-option};
 ghost use Rattle.std.specs.Results.{errPart, mapped};
 ghost use Rattle.std.specs.Vec.{made};
 ghost use Rattle.frame.specs.Held.{held};
@@ -21,30 +20,30 @@ use frame::Field;
 use frame::Frame;
 use reading::Fault;
 
-// The length of the answer line, and the card if it was accepted.
+// The length of the answer line, and the card, or the refusal that was written.
 #[derive(Clone, Copy)]
 pub struct CardReply {
     pub length: usize,
-    pub card: Option<Card>,
+    pub card: Result<Card, Fault>,
 }
 
 const KIND: u8 = 0x10;
 
 const CAP: Field = Field { byte: 3, width: 4 };
 
-// Answers a card line in a buffer of at least 128 bytes, and gives the card where the line is accepted.
+// Answers a card line in a buffer of at least 128 bytes, and gives the card, or the refusal where the line is refused.
 pub fn take_card(line: &[u8], answer: &mut [u8]) -> Result<CardReply, Fault>
     ensures written { λ r. ⌜ Written (card-line (now (line .entry))) (now (answer .entry)) (now (answer .exit)) (mapped (λ reply. reply .length) (λ fault. fault) r) ⌝ }
-    ensures card { λ r. ⌜ made r (λ reply. mapped-option values (reply .card) ≡ card-on (now (line .entry))) ⌝ }
+    ensures card { λ r. ⌜ made r (λ reply. mapped values (λ fault. fault) (reply .card) ≡ card-on (now (line .entry))) ⌝ }
 {
     match Card::read(line) {
         Ok(card) => Ok(CardReply {
             length: Answer::CardAccepted.write(answer)?,
-            card: Some(card),
+            card: Ok(card),
         }),
         Err(fault) => Ok(CardReply {
             length: Answer::Refused(fault).write(answer)?,
-            card: None,
+            card: Err(fault),
         }),
     }
 }

@@ -1,5 +1,4 @@
 use mathlib.Core.Path.{ap, subst, _∙_}
-use Rattle.std.specs.declared.option.Option.the-variants.{Some}
 use Rattle.std.specs.declared.result.Result.the-variants.{Ok}
 use Rattle.frame.specs.Line.{bytes-of}
 use Rattle.frame.specs.Written.{Written}
@@ -13,5 +12,5 @@ returns-in-Continue-write c =
       written =
           subst (λ line. Written line (c .args .answer .now) (c .write .last .buffer) (Ok (c .in-Continue-write .field-0))) (ap reply-line fine)
           (c .in-Continue-write .ensures tt .written);
-      card = ap Some (c .in-Ok .ensures tt .value) ∙ ap (λ test. given test (bytes-of (c .args .line .now))) fine;
+      card = ap Ok (c .in-Ok .ensures tt .value) ∙ ap (λ test. given test (bytes-of (c .args .line .now))) fine;
     }
