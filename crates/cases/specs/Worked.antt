@@ -110,7 +110,7 @@ industrial =
 abbrev pub reactive-without-demand : Change
 reactive-without-demand = posted oregon (service 28 0 0 0 10 0) ((4, pos 650) ∷ [])
 
--- Schedule 23 delivered at primary and metered at secondary, load 15 and demand 15: what the factor lifts over 15 kW.
+-- Schedule 23 delivered at primary and metered at secondary, a load of 15 and as much demand: what the factor lifts over 15 kW.
 abbrev pub lifted-over-15 : Change
 lifted-over-15 = posted oregon (service 23 1 0 150 0 15) ((1, pos 141) ∷ [])
 
