@@ -1,5 +1,5 @@
-//! An independent reckoning of bills, written from docs/tariffs.md and
-//! docs/protocol.md alone, and a generator of input for `bills`.
+//! An independent reckoning of bills by docs/tariffs.md, docs/protocol.md and
+//! docs/bills.md, and a generator of input for `bills`.
 
 pub mod bills;
 pub mod generator;
