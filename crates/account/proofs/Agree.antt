@@ -1,4 +1,4 @@
--- Records that agree by look_up and by count: each test finds the same of both, and each change leaves them agreeing.
+-- Records that agree by look-up and by count: each test finds the same of both, and each change leaves them agreeing.
 use Rattle.std.proofs.Common.{◌≡◌, ℕ, ◌+◌, Bool, true, cond, List, [], ◌∷◌, ◌++◌, length, is_some, Some, None, Ok, Err, Option, Result, sym, refl, ap, ◌∙◌, subst, ap₂, arith}
 use Rattle.std.proofs.lemmas.Bool.Decides.{nat_tests}
 use Rattle.reading.specs.First.{first}
@@ -65,7 +65,7 @@ module _ (held other : List Holding) (agree : Agree held other) where
         let record_of : Bool → Holding = λ closed. record { at = at; closed = closed; readings = e ∷ es } in
         agree_put (record_of (closed_at at held)) (record_of (closed_at at other)) (ap (λ l. record_of (closed_of l)) (agree.each at))
 
-    -- Here of readings that are the same by look_up.
+    -- Here of readings that are the same by look-up.
     agree_with : (at : SiteMonth) (edit : List Entry → List Entry) → Agree (left_with at (edit (readings_at at held)) held) (left_with at (edit (readings_at at other)) other)
     agree_with at edit =
         subst (λ es. Agree (left_with at (edit (readings_at at held)) held) (left_with at (edit es) other)) (same_readings at)

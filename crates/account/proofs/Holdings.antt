@@ -1,4 +1,4 @@
--- Records put and taken out: look_up, count, and that no site month stands twice.
+-- Records put and taken out: look-up, count, and that no site month stands twice.
 use Rattle.std.proofs.Common.{◌≡◌, ◌+◌, ◌≤◌, true, false, cond, not, eqb, List, [], ◌∷◌, length, Some, None, refl, ap, ap₂, arith}
 use Rattle.std.proofs.lemmas.Bool.{and_parts, eqb-true}
 use Rattle.std.proofs.lemmas.Bool.Decides.{nat_tests}

@@ -1,5 +1,5 @@
 -- No amount answered to a post is negative, none answered to a cancel is positive.
-use Rattle.std.proofs.Common.{◌≡◌, ℕ, ◌≤◌, true, List, [], ◌∷◌, ℤ, pos, ◌-ℤ◌, ◌≤ℤ◌, Ok, sym, refl, subst, arith}
+use Rattle.std.proofs.Common.{◌≡◌, ℕ, ◌≤◌, true, List, [], ◌∷◌, pos, ◌-ℤ◌, ◌≤ℤ◌, Ok, sym, refl, subst, arith}
 use Rattle.std.proofs.lemmas.Int.{ints}
 use Rattle.reading.specs.First.{first}
 use Rattle.reading.specs.declared.site_month.SiteMonth.{SiteMonth}

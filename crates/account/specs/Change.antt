@@ -47,7 +47,7 @@ abbrev pub Left : store.Meaning → SiteMonth → Option Holding → store.Meani
 Left before at None now answer = Removed before at now (holds at before.held) × (answer ≡ Ok tt)
 Left before at (Some h) now answer = Kept before h now answer
 
--- A store is left with these records, of which only look_up and count show, and with the capacity that it had.
+-- A store is left with these records, of which only look-up and count show, and with the capacity that it had.
 pub record Leaves (before : store.Meaning) (held : List Holding) (now : store.Meaning) : Type 0 where
   pub capacity : now.capacity ≡ before.capacity
   pub each : (at : SiteMonth) → look_up at now.held ≡ look_up at held

@@ -1,6 +1,6 @@
 -- Runs of a store, and the law that each keeps.
 use Rattle.std.specs.Prelude.{◌≡◌, ℕ, ◌<◌, Bool, true, false, cond, List, [], ◌∷◌, length, ℤ, pos, ◌+ℤ◌, ◌≤ℤ◌, Some, None, Option, Result, slice_index_or}
-use Rattle.std.specs.List.{AllByRecursion as All}
+use Rattle.std.specs.List.{AllByRecursion}
 use Rattle.reading.specs.Statement.{lines}
 use Rattle.reading.specs.declared.fault.Fault.{Fault}
 use Rattle.reading.specs.declared.site_month.SiteMonth.{SiteMonth}
@@ -70,10 +70,10 @@ Sign Account amount = Unit {0}
 
 abbrev pub Signed : Option Said → Type 0
 Signed None = Unit {0}
-Signed (Some x) = All (Sign x.kind) x.amounts
+Signed (Some x) = AllByRecursion (Sign x.kind) x.amounts
 
 abbrev pub Signs : List Exchange → Type 0
-Signs h = All (λ e. Signed (said e.reply)) h
+Signs h = AllByRecursion (λ e. Signed (said e.reply)) h
 
 -- The law on runs, of exchanges with a store of capacity n.
 pub record Law (b : book.Meaning) (n : ℕ) (h : List Exchange) : Type 0 where

@@ -3,7 +3,7 @@ ghost use Rattle.std.specs.Prelude.{◌≡◌, IfOk};
 ghost use Rattle.answer.specs.declared.answer.Answer.TheVariants.{Amounts};
 ghost use Rattle.account.specs.Change.{Left};
 ghost use Rattle.account.specs.Readings.{found, readings_of};
-ghost use Rattle.account.specs.Reply.{differences as differences-between, taken};
+ghost use Rattle.account.specs.Reply.{differences as differences_between, taken};
 
 use crate::settle::differences;
 use answer::{AmountsKind, Answer};
@@ -22,7 +22,7 @@ pub(crate) fn change<B: Book, S: Store>(
     after: &Option<Record>,
 ) -> Result<Answer, Fault>
     ensures left { Left (S.Store.meaning store.old) at (found after.now) (S.Store.meaning store.new) (taken result) }
-    ensures answer { IfOk result (λ a. a ≡ Amounts kind (differences-between (B.Book.meaning book.now) (readings_of (found before.now)) (readings_of (found after.now)))) }
+    ensures answer { IfOk result (λ a. a ≡ Amounts kind (differences_between (B.Book.meaning book.now) (readings_of (found before.now)) (readings_of (found after.now)))) }
 {
     leave(store, at, after)?;
     Ok(Answer::Amounts {

@@ -2,7 +2,7 @@
 ghost use Rattle.std.specs.Prelude.{◌≡◌, length};
 ghost use Rattle.std.specs.Result.{result_err};
 ghost use Rattle.frame.specs.Tests.{buffer_test};
-ghost use Rattle.account.specs.Change.{Leaves, after as left_After};
+ghost use Rattle.account.specs.Change.{Leaves, after as left_after};
 ghost use Rattle.account.specs.Reply.{answer_of, Responds, Replies};
 ghost use Rattle.account.specs.Runs.{exchanged, LawOnRuns};
 ghost use Rattle.account.specs.Tests.{verdict};
@@ -31,7 +31,7 @@ pub fn serve<B: Book, S: Store>(
     answer: &mut [u8],
 ) -> Result<usize, Fault>
     ensures replies { Replies (B.Book.meaning book.now) (S.Store.meaning store.old) line.now answer.old answer.new result }
-    ensures changes { Leaves (S.Store.meaning store.old) (left_After (B.Book.meaning book.now) (S.Store.meaning store.old) (length answer.old) line.now) (S.Store.meaning store.new) }
+    ensures changes { Leaves (S.Store.meaning store.old) (left_after (B.Book.meaning book.now) (S.Store.meaning store.old) (length answer.old) line.now) (S.Store.meaning store.new) }
     ensures sums { LawOnRuns (B.Book.meaning book.now) (S.Store.meaning store.old) (exchanged line.now answer.old answer.new result) (S.Store.meaning store.new) }
     ensures worked { PostsWorked }
 {
@@ -53,7 +53,7 @@ fn check_buffer(buffer: &[u8]) -> Result<(), Fault>
 // What is answered to a line, also a refusal.
 fn reply<B: Book, S: Store>(book: &B, store: &mut S, line: &[u8]) -> Answer
     ensures value { result ≡ answer_of (B.Book.meaning book.now) (S.Store.meaning store.old).held (verdict (B.Book.meaning book.now) (S.Store.meaning store.old) 128 line.now) }
-    ensures changes { Leaves (S.Store.meaning store.old) (left_After (B.Book.meaning book.now) (S.Store.meaning store.old) 128 line.now) (S.Store.meaning store.new) }
+    ensures changes { Leaves (S.Store.meaning store.old) (left_after (B.Book.meaning book.now) (S.Store.meaning store.old) 128 line.now) (S.Store.meaning store.new) }
 {
     match respond(book, store, line) {
         Ok(answer) => answer,

@@ -1,4 +1,6 @@
 // What each request does to the site months and what is answered, with the law on runs of requests.
+#![tactic(auto)]
+
 mod account;
 mod cancel;
 mod change;

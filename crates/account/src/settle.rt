@@ -1,7 +1,7 @@
 // What some readings come to.
 ghost use Rattle.std.specs.Prelude.{◌≡◌, ◌*◌, ◌^◌, ◌≤◌, sum_by};
 ghost use Rattle.account.specs.Readings.{Few, found, readings_of};
-ghost use Rattle.account.specs.Reply.{settlements as settlements-of, differences as differences-between};
+ghost use Rattle.account.specs.Reply.{settlements as settlements_of, differences as differences_between};
 
 use crate::look_up::readings;
 use book::Book;
@@ -30,7 +30,7 @@ fn weigh<B: Book>(book: &B, readings: &[Entry], line: usize) -> u64
 // The settlement of some readings on each statement line. By the laws of a book none is above 20 million dollars.
 pub(crate) fn settlements<B: Book>(book: &B, readings: &[Entry]) -> Amounts
     requires { Few readings.now }
-    ensures { result ≡ settlements-of (B.Book.meaning book.now) readings.now }
+    ensures { result ≡ settlements_of (B.Book.meaning book.now) readings.now }
 {
     let mut amounts = [0; LINES];
     for line in 0..LINES {
@@ -45,7 +45,7 @@ pub(crate) fn differences<B: Book>(
     before: &Option<Record>,
     after: &Option<Record>,
 ) -> Amounts
-    ensures { result ≡ differences-between (B.Book.meaning book.now) (readings_of (found before.now)) (readings_of (found after.now)) }
+    ensures { result ≡ differences_between (B.Book.meaning book.now) (readings_of (found before.now)) (readings_of (found after.now)) }
 {
     let settled_before = settlements(book, readings(before));
     let settled_after = settlements(book, readings(after));

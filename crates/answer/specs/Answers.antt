@@ -1,7 +1,7 @@
 -- The line of each answer, and what reading it back gives.
 use Rattle.std.specs.Prelude.{◌≡◌, ℕ, List, [], ◌∷◌, length, ℤ, Some, None, FitsSigned}
 use Rattle.std.specs.Int.{w32}
-use Rattle.std.specs.List.{AllByRecursion as All}
+use Rattle.std.specs.List.{AllByRecursion}
 use Rattle.reading.specs.Statement.{lines}
 use Rattle.reading.specs.Refusal.{number_of, layer_of, layer_number, place_of}
 use Rattle.frame.specs.Line.{spelled, bytes_of}
@@ -32,4 +32,4 @@ pub record ReadBack (kind : AmountsKind) (amounts : List ℤ) : Type 0 where
 
 -- So it is of every amounts of 32 bits, one for each statement line.
 abbrev pub AmountsReadBack : Type 0
-AmountsReadBack = (kind : AmountsKind) (amounts : List ℤ) → length amounts ≡ lines → All (FitsSigned w32) amounts → ReadBack kind amounts
+AmountsReadBack = (kind : AmountsKind) (amounts : List ℤ) → length amounts ≡ lines → AllByRecursion (FitsSigned w32) amounts → ReadBack kind amounts

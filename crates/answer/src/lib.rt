@@ -1,4 +1,6 @@
 // Answers: as lines, and amounts read back from one.
+#![tactic(auto)]
+
 mod amounts;
 mod answer;
 mod kind;

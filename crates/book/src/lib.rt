@@ -1,4 +1,6 @@
 // A book: what a reading costs, by one utility's sheets.
+#![tactic(auto)]
+
 mod book;
 mod money;
 mod sense;

@@ -1,6 +1,6 @@
 // Units, which are ten-millionths of a cent, and whole cents.
 ghost use Rattle.std.specs.Prelude.{◌≡◌, ◌*◌, ◌^◌, ◌≤◌};
-ghost use Rattle.book.specs.Money.{half_up, rounded as rounded-to};
+ghost use Rattle.book.specs.Money.{half_up, rounded as rounded_to};
 
 const CENT: u64 = 10_000_000;
 
@@ -19,7 +19,7 @@ pub fn half_up(units: u64) -> u64
 // Units rounded to whole cents, in units again.
 pub fn rounded(units: u64) -> u64
     requires { units ≤ 10 ^ 18 }
-    ensures { result ≡ rounded-to units }
+    ensures { result ≡ rounded_to units }
 {
     CENT * half_up(units)
 }

@@ -1,9 +1,9 @@
 -- A change of the readings that stand, and the amounts that it answers.
 use Rattle.std.specs.Prelude.{◌≡◌, ℕ, List, ℤ, pos, ◌-ℤ◌}
-use Rattle.std.specs.List.{AllByRecursion as All}
+use Rattle.std.specs.List.{AllByRecursion}
 use Rattle.reading.specs.declared.entry.Entry.{Entry}
 use Rattle.book.specs.Meaning.{Meaning}
-use Rattle.book.specs.Settled.{settled}
+pub use Rattle.book.specs.Settled.{settled}
 
 -- Readings before and after, and the amount expected on some of the statement lines.
 pub record Change : Type 0 where
@@ -18,4 +18,4 @@ answered c line = pos (settled c.book c.after line) -ℤ pos (settled c.book c.b
 
 -- The amounts answered are those expected.
 abbrev pub Right : Change → Type 0
-Right c = All (λ x. answered c x.0 ≡ x.1) c.expected
+Right c = AllByRecursion (λ x. answered c x.0 ≡ x.1) c.expected

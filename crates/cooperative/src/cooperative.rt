@@ -1,6 +1,6 @@
 // The cooperative's industrial schedule.
 ghost use Rattle.std.specs.Prelude.{◌≡◌, ◌^◌, ◌≤◌};
-ghost use Rattle.cooperative.specs.Schedule.{cooperative as sheet, exact as exact-on, power_factor};
+ghost use Rattle.cooperative.specs.Schedule.{cooperative as sheet, exact as exact_on, power_factor};
 ghost use Rattle.reading.specs.Limits.{Limits};
 ghost use Rattle.cooperative.specs.Laws.{keeps};
 
@@ -67,7 +67,7 @@ impl Book for Cooperative {
 
 // What a reading costs on a statement line, in units, before it is rounded.
 fn exact(reading: &Reading, line: usize) -> u64
-    ensures value { result ≡ exact-on reading.now.entry line }
+    ensures value { result ≡ exact_on reading.now.entry line }
     ensures bound { result ≤ 10 ^ 15 }
 {
     let entry = reading.entry();

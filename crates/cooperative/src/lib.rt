@@ -1,4 +1,6 @@
 // The cooperative's book.
+#![tactic(auto)]
+
 mod cooperative;
 
 pub use cooperative::Cooperative;

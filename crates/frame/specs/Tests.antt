@@ -1,9 +1,9 @@
 -- Tests on a line, in the order of their numbers.
-use Rattle.std.specs.Prelude.{◌≡◌, ℕ, ◌+◌, ◌%◌, not, ◌||◌, List, [], ◌∷◌, ◌++◌, length, is_some, Some, None, sum, Option, ◌==◌, nat_lt}
+use Rattle.std.specs.Prelude.{◌≡◌, ℕ, ◌+◌, ◌%◌, not, ◌||◌, List, [], ◌∷◌, ◌++◌, length, is_some, None, sum, Option, ◌==◌, nat_lt}
 use Rattle.std.specs.Option.{unwrap_or}
 use Rattle.reading.specs.declared.fault.Fault.{Fault}
 use Rattle.reading.specs.declared.fault.Fault.TheVariants.{Buffer, LineLength, Digit, Sum, Kind, PayloadLength}
-use Rattle.reading.specs.First.{when, or_else, first}
+pub use Rattle.reading.specs.First.{when, or_else, first}
 use Rattle.frame.specs.Digit.{value_of}
 use Rattle.frame.specs.Line.{spelled, bytes_of}
 use Rattle.frame.specs.Seal.{kind_of, carries}

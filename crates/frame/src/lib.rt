@@ -1,4 +1,6 @@
 // Lines and frames: upper-case hexadecimal with a length and a check byte.
+#![tactic(auto)]
+
 mod digit;
 mod frame;
 

@@ -1,4 +1,6 @@
 // An image kept in a file.
+#![tactic(auto)]
+
 ghost use Rattle.std.specs.Prelude.{◌≤◌, IfOk, vec_len};
 
 use slot::SLOT;

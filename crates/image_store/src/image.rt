@@ -4,8 +4,8 @@ ghost use Rattle.slots.specs.Cuts.{lawful_image};
 
 use crate::lent::Lent;
 
+mod as_store;
 mod open;
-mod store;
 
 // 1 to 1,024 whole slots, each empty or what is written for a lawful record, no site month twice.
 #[derive(Drop)]

@@ -1,4 +1,6 @@
 // A store over a retentive image.
+#![tactic(auto)]
+
 mod image;
 mod lent;
 

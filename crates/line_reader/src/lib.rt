@@ -1,4 +1,6 @@
 // Lines from standard input, each in bounded memory, and answers to standard output.
+#![tactic(auto)]
+
 ghost use Rattle.std.specs.Prelude.{◌≡◌, ℕ, ◌<◌, ◌≤◌, List, [], length as length_of, take, slice_set};
 ghost use Rattle.line_buffer.specs.Received.{received, StandsFor};
 

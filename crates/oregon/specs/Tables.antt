@@ -1,7 +1,7 @@
 -- The bounds of the rate tables: one test that is computed over them all, and what it says of each rate.
 use Rattle.std.specs.Prelude.{◌≡◌, ℕ, zero, suc, ◌≤◌, Bool, true, ◌&&◌, List, [], ◌∷◌, nat_le, slice_index, refl}
 use Rattle.std.proofs.Common.{arith}
-use Rattle.std.specs.List.{AllByRecursion as All}
+use Rattle.std.specs.List.{AllByRecursion}
 use Rattle.std.proofs.lemmas.Bool.{and_parts, leb-true}
 use Rattle.reading.specs.declared.entry.Entry.{Entry}
 use Rattle.oregon.specs.Rates.{energy_rates, transmission_rates, transmission_kw_rates, usage_rates, demand_rates, reactive_rates, rates_203, rates_204, rates_207, floors, basic_28, load_28, basic_730, load_730}
@@ -45,18 +45,18 @@ rate_bounded most (r ∷ rs) zero e h = row_bounded most r _ (and_parts (row_fit
 rate_bounded most (r ∷ rs) (suc row) e h = rate_bounded most rs row e (and_parts (row_fits most r) (table_fits most rs) h).1
 
 -- Every rate of every table that passes.
-each_bounded : (most : ℕ) (tables : List (List (List ℕ))) → all_fit most tables ≡ true → All (λ table. (row : ℕ) (e : Entry) → rate table row e ≤ most) tables
+each_bounded : (most : ℕ) (tables : List (List (List ℕ))) → all_fit most tables ≡ true → AllByRecursion (λ table. (row : ℕ) (e : Entry) → rate table row e ≤ most) tables
 unfolding all_fit
 each_bounded most [] h = tt
 each_bounded most (table ∷ tables) h =
     let p = and_parts (table_fits most table) (all_fit most tables) h in
     ((λ row e. rate_bounded most table row e p.0), each_bounded most tables p.1)
 
-pub kw_rates : All (λ table. (row : ℕ) (e : Entry) → rate table row e ≤ 1000) (transmission_kw_rates ∷ demand_rates ∷ reactive_rates ∷ load_28 ∷ load_730 ∷ [])
+pub kw_rates : AllByRecursion (λ table. (row : ℕ) (e : Entry) → rate table row e ≤ 1000) (transmission_kw_rates ∷ demand_rates ∷ reactive_rates ∷ load_28 ∷ load_730 ∷ [])
 unfolding kw_tables
 kw_rates = each_bounded 1000 kw_tables (and_parts (all_fit 1000 kw_tables) (all_fit 65535 kwh_tables) sheet_fits).0
 
-pub kwh_rates : All (λ table. (row : ℕ) (e : Entry) → rate table row e ≤ 65535) (energy_rates ∷ transmission_rates ∷ usage_rates ∷ rates_203 ∷ rates_204 ∷ rates_207 ∷ basic_28 ∷ basic_730 ∷ [])
+pub kwh_rates : AllByRecursion (λ table. (row : ℕ) (e : Entry) → rate table row e ≤ 65535) (energy_rates ∷ transmission_rates ∷ usage_rates ∷ rates_203 ∷ rates_204 ∷ rates_207 ∷ basic_28 ∷ basic_730 ∷ [])
 unfolding kwh_tables
 kwh_rates = each_bounded 65535 kwh_tables (and_parts (all_fit 1000 kw_tables) (all_fit 65535 kwh_tables) sheet_fits).1
 

@@ -5,7 +5,7 @@ ghost use Rattle.reading.specs.Limits.{Limits};
 ghost use Rattle.oregon.specs.Rates.{band_28, band_730, demand_rates};
 ghost use Rattle.oregon_card.specs.Schedules.{place as place_of};
 ghost use Rattle.oregon_card.specs.declared.schedule.Schedule.TheVariants.{S23};
-ghost use Rattle.oregon.specs.Sheet.{rate as rate-in, per_kw as per-kw-of, billed as billed-on, basic as basic-on, three_phase_demand, over_15, load_demand, block as Block-of, energy as energy-on, credit as credit-on, reactive as reactive-on, transmission as transmission-on, floor as floor-on, rider};
+ghost use Rattle.oregon.specs.Sheet.{rate as rate_in, per_kw as per_kw_of, billed as billed_on, basic as basic_on, three_phase_demand, over_15, load_demand, block as block_of, energy as energy_on, credit as credit_on, reactive as reactive_on, transmission as transmission_on, floor as floor_on, rider};
 
 use crate::quantity::{billed, factor, kw, per_kw, per_kwh, rate};
 use crate::rates;
@@ -40,7 +40,7 @@ fn band_730(load: u16) -> usize
 
 // The basic charge, in cents.
 pub(crate) fn basic(schedule: Schedule, entry: &Entry) -> u16
-    ensures { result ≡ basic-on schedule entry.now }
+    ensures { result ≡ basic_on schedule entry.now }
 {
     match schedule {
         Schedule::S4 | Schedule::S5 => if entry.multi_family() { 800 } else { 950 },
@@ -87,7 +87,7 @@ fn small_load(entry: &Entry) -> u64
 // Load size by its band, and demand.
 fn banded_load(schedule: Schedule, load: [u16; 2], entry: &Entry) -> u64
     requires { Limits entry.now }
-    ensures value { result ≡ per-kw-of (slice_index load (if primary_delivery entry.now then 1 else 0)) entry.now.load entry.now + per-kw-of (rate-in demand_rates (place_of schedule) entry.now) (billed-on schedule entry.now) entry.now }
+    ensures value { result ≡ per_kw_of (slice_index load (if primary_delivery entry.now then 1 else 0)) entry.now.load entry.now + per_kw_of (rate_in demand_rates (place_of schedule) entry.now) (billed_on schedule entry.now) entry.now }
     ensures bound { result ≤ 10 ^ 17 }
 {
     let demand = rate(rates::DEMAND[schedule.place()], entry);
@@ -116,7 +116,7 @@ pub(crate) fn load_and_demand(schedule: Schedule, entry: &Entry) -> u64
 // The kWh of schedule 29's block.
 fn block(entry: &Entry) -> u32
     requires { Limits entry.now }
-    ensures { result ≡ Block-of entry.now }
+    ensures { result ≡ block_of entry.now }
 {
     entry.kwh.min(50 * u32::from(billed(Schedule::S29, entry)))
 }
@@ -124,7 +124,7 @@ fn block(entry: &Entry) -> u32
 // Energy: the kWh of schedule 29's block, or all kWh on another schedule.
 pub(crate) fn energy(schedule: Schedule, entry: &Entry) -> u64
     requires { Limits entry.now }
-    ensures value { result ≡ energy-on schedule entry.now }
+    ensures value { result ≡ energy_on schedule entry.now }
     ensures bound { result ≤ 10 ^ 16 }
 {
     match schedule {
@@ -136,7 +136,7 @@ pub(crate) fn energy(schedule: Schedule, entry: &Entry) -> u64
 // Credit: schedule 29's kWh past its block.
 pub(crate) fn credit(schedule: Schedule, entry: &Entry) -> u64
     requires { Limits entry.now }
-    ensures value { result ≡ credit-on schedule entry.now }
+    ensures value { result ≡ credit_on schedule entry.now }
     ensures bound { result ≤ 10 ^ 16 }
 {
     match schedule {
@@ -148,7 +148,7 @@ pub(crate) fn credit(schedule: Schedule, entry: &Entry) -> u64
 // Reactive power: the kvar over 40 percent of the demand in kW, in tenths.
 pub(crate) fn reactive(schedule: Schedule, entry: &Entry) -> u64
     requires { Limits entry.now }
-    ensures value { result ≡ reactive-on schedule entry.now }
+    ensures value { result ≡ reactive_on schedule entry.now }
     ensures bound { result ≤ 10 ^ 17 }
 {
     let excess = (10 * u32::from(entry.kvar)).saturating_sub(4 * u32::from(kw(entry)));
@@ -162,7 +162,7 @@ pub(crate) fn reactive(schedule: Schedule, entry: &Entry) -> u64
 // Transmission: by the kWh, or by the kW of billed demand.
 pub(crate) fn transmission(schedule: Schedule, entry: &Entry) -> u64
     requires { Limits entry.now }
-    ensures value { result ≡ transmission-on schedule entry.now }
+    ensures value { result ≡ transmission_on schedule entry.now }
     ensures bound { result ≤ 10 ^ 17 }
 {
     let kw_rate = rate(rates::TRANSMISSION_KW[schedule.place()], entry);
@@ -181,7 +181,7 @@ pub(crate) fn by_kwh(table: [[u16; 2]; 7], schedule: Schedule, entry: &Entry) ->
 // The floor: what the credit exceeds energy, transmission and system usage by, in cents.
 pub(crate) fn floor(schedule: Schedule, entry: &Entry) -> u64
     requires { Limits entry.now }
-    ensures value { result * 10000000 ≡ floor-on schedule entry.now }
+    ensures value { result * 10000000 ≡ floor_on schedule entry.now }
     ensures bound { result ≤ 10 ^ 9 }
 {
     let charged = half_up(energy(schedule, entry))

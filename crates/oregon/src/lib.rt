@@ -1,7 +1,9 @@
 // Oregon's book.
-mod book;
+#![tactic(auto)]
+
 mod charges;
+mod oregon;
 mod quantity;
 mod rates;
 
-pub use self::book::Oregon;
+pub use oregon::Oregon;

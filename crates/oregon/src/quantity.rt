@@ -2,7 +2,7 @@
 ghost use Rattle.std.specs.Prelude.{◌≡◌, ◌^◌, ◌≤◌, if◌then◌else◌, slice_index};
 ghost use Rattle.reading.specs.Limits.{Limits};
 ghost use Rattle.reading.specs.Flags.{primary_delivery};
-ghost use Rattle.oregon.specs.Sheet.{factor as factor-of, kw as kw-of, billed as billed-on, per_kwh, per_kw};
+ghost use Rattle.oregon.specs.Sheet.{factor as factor_of, kw as kw_of, billed as billed_on, per_kwh, per_kw};
 
 use crate::rates::FLOORS;
 use oregon_card::Schedule;
@@ -24,7 +24,7 @@ pub(crate) fn rate(row: Rate, entry: &Entry) -> u16
 
 // The factor that adjusts quantities metered at another voltage than delivered, in ten-thousandths.
 pub(crate) fn factor(entry: &Entry) -> u16
-    ensures value { result ≡ factor-of entry.now }
+    ensures value { result ≡ factor_of entry.now }
     ensures bound { result ≤ 10157 }
 {
     match (entry.primary_delivery(), entry.primary_metering()) {
@@ -37,7 +37,7 @@ pub(crate) fn factor(entry: &Entry) -> u16
 // The demand in kW.
 pub(crate) fn kw(entry: &Entry) -> u16
     requires { Limits entry.now }
-    ensures value { result ≡ kw-of entry.now }
+    ensures value { result ≡ kw_of entry.now }
     ensures bound { result ≤ 10000 }
 {
     nearest_kw(entry.demand) as u16
@@ -46,7 +46,7 @@ pub(crate) fn kw(entry: &Entry) -> u16
 // The demand in kW, raised to the schedule's floor.
 pub(crate) fn billed(schedule: Schedule, entry: &Entry) -> u16
     requires { Limits entry.now }
-    ensures value { result ≡ billed-on schedule entry.now }
+    ensures value { result ≡ billed_on schedule entry.now }
     ensures bound { result ≤ 10000 }
 {
     kw(entry).max(FLOORS[schedule.place()])

@@ -1,6 +1,6 @@
 // One line, served under Oregon's book.
 ghost use Rattle.std.specs.Prelude.{length};
-ghost use Rattle.account.specs.Change.{Leaves, after as left_After};
+ghost use Rattle.account.specs.Change.{Leaves, after as left_after};
 ghost use Rattle.account.specs.Reply.{Replies};
 ghost use Rattle.account.specs.Runs.{exchanged, LawOnRuns};
 ghost use Rattle.oregon.specs.Sheet.{oregon_sheet};
@@ -22,7 +22,7 @@ pub fn serve_oregon<S: Store>(
     answer: &mut [u8],
 ) -> Result<usize, Fault>
     ensures replies { Replies (oregon_sheet (values book.now.card)) (S.Store.meaning store.old) line.now answer.old answer.new result }
-    ensures changes { Leaves (S.Store.meaning store.old) (left_After (oregon_sheet (values book.now.card)) (S.Store.meaning store.old) (length answer.old) line.now) (S.Store.meaning store.new) }
+    ensures changes { Leaves (S.Store.meaning store.old) (left_after (oregon_sheet (values book.now.card)) (S.Store.meaning store.old) (length answer.old) line.now) (S.Store.meaning store.new) }
     ensures sums { LawOnRuns (oregon_sheet (values book.now.card)) (S.Store.meaning store.old) (exchanged line.now answer.old answer.new result) (S.Store.meaning store.new) }
     ensures low_income { LowIncomeOnRuns (values book.now.card) (S.Store.meaning store.old) (exchanged line.now answer.old answer.new result) (S.Store.meaning store.new) }
     ensures worked { MonthWorked }

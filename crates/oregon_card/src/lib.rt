@@ -1,4 +1,6 @@
 // Oregon's schedules, and the card that its prices arrive on.
+#![tactic(auto)]
+
 mod card;
 mod schedule;
 

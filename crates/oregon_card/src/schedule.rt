@@ -1,7 +1,7 @@
 // Oregon's schedules.
 ghost use Rattle.std.specs.Prelude.{◌≡◌, IfOk, Some};
 ghost use Rattle.std.specs.Result.{result_err};
-ghost use Rattle.oregon_card.specs.Schedules.{schedule_of, place as place_of, offers_voltage, offers_multi_family, unoffered as unoffered-on, check};
+ghost use Rattle.oregon_card.specs.Schedules.{schedule_of, place as place_of, offers_voltage, offers_multi_family, unoffered as unoffered_on, check};
 
 use reading::{Entry, Fault};
 
@@ -64,7 +64,7 @@ impl Schedule {
 
     // Whether a flag is set that the schedule does not offer.
     fn unoffered(self, entry: &Entry) -> bool
-        ensures { result ≡ unoffered-on self entry.now }
+        ensures { result ≡ unoffered_on self entry.now }
     {
         let voltage = entry.primary_delivery() || entry.primary_metering();
         (voltage && !self.offers_voltage()) || (entry.multi_family() && !self.offers_multi_family())

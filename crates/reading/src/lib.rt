@@ -1,4 +1,6 @@
 // The bottom layer: every refusal, and what a meter reading is.
+#![tactic(auto)]
+
 mod demand;
 mod entry;
 mod fault;

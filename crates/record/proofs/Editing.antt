@@ -1,7 +1,7 @@
 -- What an edit of the readings keeps, and what stands by meter afterwards.
-use Rattle.std.proofs.Common.{◌≡◌, ℕ, ◌+◌, ◌<◌, ◌≤◌, Bool, true, false, cond, ◌&&◌, eqb, ltb, ◌⊎◌, List, [], ◌∷◌, length, is_some, Some, None, Option, sym, refl, ap, ◌∙◌, subst, inl, inr, ⊎_elim, arith}
+use Rattle.std.proofs.Common.{◌≡◌, ℕ, ◌+◌, Bool, true, false, cond, eqb, ltb, List, [], ◌∷◌, length, is_some, Some, None, Option, sym, refl, ap, ◌∙◌, ⊎_elim, arith}
 use Rattle.std.specs.List.{list_all}
-use Rattle.std.proofs.lemmas.Bool.{and_parts, and_from, ltb-true, ltb-false, lt-ltb, eqb-true, eqb-false, eq-eqb, ne_eqb, cases_Bool, cond-true, cond-false, cond_both}
+use Rattle.std.proofs.lemmas.Bool.{and_parts, and_from, ltb-false, lt-ltb, eqb-true, eqb-false, cases_Bool, cond-true, cond-false, cond_both}
 use Rattle.reading.specs.declared.entry.Entry.{Entry}
 use Rattle.record.specs.Edits.{added, replaced, taken_out, Puts, Takes}
 use Rattle.record.specs.Meters.{of_meter, precedes, rising, standing, stands}

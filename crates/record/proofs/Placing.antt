@@ -1,11 +1,10 @@
 -- What stands at a meter's place, and what an edit there leaves.
-use Rattle.std.proofs.Common.{◌≡◌, ℕ, zero, suc, ◌+◌, ◌<◌, ◌≤◌, Bool, true, false, cond, ◌&&◌, eqb, ltb, List, [], ◌∷◌, ◌++◌, length, get_or, take, drop, set, is_some, Some, None, sym, refl, ap, ◌∙◌, subst, arith}
+use Rattle.std.proofs.Common.{◌≡◌, ℕ, zero, suc, ◌<◌, ◌≤◌, true, false, eqb, List, [], ◌∷◌, length, get_or, set, Some, None, refl, ap, arith}
 use Rattle.std.specs.List.{insert, remove, list_all}
-use Rattle.std.proofs.lemmas.Bool.{and_parts, and_from, ltb-true, lt-ltb, le-ltb, eqb-true, eqb-false, eq-eqb, ne_eqb, cases_Bool, cond-true, cond-false, cond_both}
-use Rattle.std.proofs.lemmas.Bool.Decides.{nat_tests}
+use Rattle.std.proofs.lemmas.Bool.{and_parts, ltb-true, lt-ltb, le-ltb, eq-eqb, ne_eqb}
 use Rattle.reading.specs.declared.entry.Entry.{Entry}
-use Rattle.record.specs.Edits.{added, replaced, taken_out, Puts, Takes}
-use Rattle.record.specs.Meters.{of_meter, precedes, rising, standing, stands, Place}
+use Rattle.record.specs.Edits.{added, replaced, taken_out}
+use Rattle.record.specs.Meters.{precedes, rising, standing, Place}
 use Rattle.record.specs.Meters.{blank}
 
 -- No reading of a meter stands among later ones.

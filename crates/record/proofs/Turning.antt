@@ -1,10 +1,10 @@
 -- An element put in or taken out of the front of a list by turning a part of it.
-use Rattle.std.proofs.Common.{◌≡◌, ℕ, suc, ◌+◌, ◌-◌, ◌<◌, ◌≤◌, List, [], ◌∷◌, ◌++◌, length, get_or, take, drop, set, sym, refl, ap, ◌∙◌, ap₂, add-one, arith}
+use Rattle.std.proofs.Common.{◌≡◌, ℕ, ◌+◌, ◌-◌, ◌<◌, ◌≤◌, List, [], ◌∷◌, ◌++◌, length, get_or, take, drop, set, sym, ap, ◌∙◌, ap₂, add-one, arith}
 use borrow.Rule.Slice.PartMut.{put_mid}
 use Rattle.std.specs.List.{between, insert, remove}
 use Rattle.std.proofs.lemmas.List.Edits.{length-between}
-use Rattle.std.proofs.lemmas.List.{length-set, length-take, length-take-le, length-drop, length-append, take-take, take_more_set, take-set-le, drop-set-lt, drop-append-le, drop_at, take_at, drop_more, drop-drop, drop-set, append_assoc}
-use Rattle.std.proofs.lemmas.Slice.{between_is, take-put_mid, take-put_mid_below, drop-put_mid}
+use Rattle.std.proofs.lemmas.List.{length-set, length-take, length-take-le, length-drop, length-append, take-take, take_more_set, take-set-le, drop-set-lt, drop-append-le, drop_at, take_at, drop_more, drop-set, append_assoc}
+use Rattle.std.proofs.lemmas.Slice.{between_is, take-put_mid, drop-put_mid}
 
 -- The part from k to the new last element is turned by one to the right.
 module _ {X : Type 0} (xs : List X) (n k : ℕ) (e : X) (turned : List X) (room : n < length xs) (le : k ≤ n) where

@@ -2,7 +2,7 @@
 ghost use Rattle.std.specs.Prelude.{◌≡◌, ◌+◌, ◌-◌, ◌<◌, ◌≤◌, true, ◌∷◌, length, take, drop, is_ok, MatchResult};
 ghost use Rattle.std.specs.List.{insert, remove, list_all};
 ghost use Rattle.record.specs.Holding.{lawful_reading};
-ghost use Rattle.record.specs.Meters.{rising, stands, Place, StandsAt, BelongsAt, blank as blank-entry};
+ghost use Rattle.record.specs.Meters.{rising, stands, Place, StandsAt, BelongsAt, blank as blank_entry};
 ghost use Rattle.record.specs.Rows.{is_blank};
 
 use crate::row::{BLANK, READINGS};
@@ -108,7 +108,7 @@ pub(crate) fn insert(entries: &mut [Entry; READINGS], count: usize, place: usize
 pub(crate) fn remove(entries: &mut [Entry; READINGS], count: usize, place: usize)
     requires { (count ≤ 16) × (place < count) }
     ensures front { take (count - 1) entries.new ≡ remove (take count entries.old) place }
-    ensures rest { drop (count - 1) entries.new ≡ blank-entry ∷ drop count entries.old }
+    ensures rest { drop (count - 1) entries.new ≡ blank_entry ∷ drop count entries.old }
 {
     entries[place..count].rotate_left(1);
     entries[count - 1] = BLANK;

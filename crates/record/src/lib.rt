@@ -1,4 +1,6 @@
 // What is held under one site month: its readings, one to a meter.
+#![tactic(auto)]
+
 mod entries;
 mod record;
 mod row;

@@ -1,4 +1,6 @@
 // Requests: what a controller asks of the block.
+#![tactic(auto)]
+
 mod fields;
 mod kind;
 mod limit;

@@ -1,4 +1,6 @@
 // A store over the caller's rows.
+#![tactic(auto)]
+
 mod rows;
 
 pub use rows::Rows;

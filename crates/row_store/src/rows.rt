@@ -4,9 +4,9 @@ ghost use Rattle.store.specs.Table.{lawful_table};
 
 use record::Row;
 
+mod as_store;
 mod open;
 mod search;
-mod store;
 
 // The most rows of a store.
 const MOST: usize = 1024;

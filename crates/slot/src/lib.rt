@@ -1,4 +1,6 @@
 // A record as the bytes of a slot of a retentive image, and back.
+#![tactic(auto)]
+
 mod entry;
 mod header;
 mod slot;

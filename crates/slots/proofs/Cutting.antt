@@ -1,9 +1,8 @@
 -- The slots of an image, one by one, and with one written over.
-use Rattle.std.proofs.Common.{◌≡◌, ℕ, zero, suc, ◌+◌, ◌-◌, ◌*◌, ◌/◌, ◌<◌, ◌≤◌, ◌≢◌, ◌⊎◌, List, [], ◌∷◌, ◌++◌, map, length, get_or, take, drop, set, sym, refl, ap, ◌∙◌, inl, inr, ⊎_elim, arith}
-use Rattle.std.proofs.lemmas.List.{drop-drop, drop_at, take_at, take_all, take-take, take-append-drop, take-append-le, drop-append-le, get_or-map, get_or-set_same, get_or-set_other, length-map, length-set, length-append, length-take-le, length-drop, ext_get_or, map-set, append_assoc}
+use Rattle.std.proofs.Common.{◌≡◌, ℕ, zero, suc, ◌+◌, ◌-◌, ◌*◌, ◌/◌, ◌<◌, ◌≢◌, ◌⊎◌, List, [], ◌++◌, map, length, get_or, take, drop, set, sym, refl, ap, ◌∙◌, inl, inr, ⊎_elim, arith}
+use Rattle.std.proofs.lemmas.List.{drop-drop, drop_at, take_at, take-append-drop, take-append-le, drop-append-le, get_or-map, get_or-set_same, get_or-set_other, length-map, length-set, length-append, length-take-le, length-drop, ext_get_or, map-set, append_assoc}
 use Rattle.std.proofs.lemmas.Bool.{cases_order, cases_eq}
 use Rattle.record.specs.Rows.{vacant}
-use Rattle.record.specs.declared.row.Row.{Row}
 use Rattle.slot.specs.Reading.{row_in}
 use Rattle.slots.specs.Cuts.{slots, slot_count, slots_of, table_of, put_slot}
 

@@ -1,10 +1,9 @@
 -- An image is a store.
-use Rattle.std.proofs.Common.{◌≡◌, ℕ, zero, suc, ◌+◌, ◌*◌, ◌/◌, ◌%◌, ◌<◌, ◌≤◌, Bool, true, false, cond, not, ◌&&◌, eqb, ltb, leb, List, [], ◌∷◌, map, length, get_or, take, drop, set, replicate, is_some, Some, None, Option, sym, refl, ap, ◌∙◌, subst, arith}
+use Rattle.std.proofs.Common.{◌≡◌, ℕ, zero, suc, ◌*◌, ◌/◌, ◌%◌, ◌<◌, ◌≤◌, true, ◌&&◌, eqb, leb, List, [], ◌∷◌, map, length, get_or, take, drop, set, sym, refl, ap, ◌∙◌, subst, arith}
 use Rattle.std.specs.List.{list_all}
 use Rattle.std.proofs.lemmas.Bool.{and_parts, and_from, leb-true, le-leb, eqb-true, eq-eqb}
 use Rattle.record.proofs.Passing.{pass_getD}
-use Rattle.record.specs.Rows.{tidy, vacant}
-use Rattle.record.specs.declared.row.Row.{Row}
+use Rattle.record.specs.Rows.{tidy}
 use Rattle.slot.specs.Reading.{row_in, lawful_slot}
 use Rattle.store.specs.Meaning.{Lawful, once}
 use Rattle.store.specs.Table.{held_in, lawful_table, table_meaning}

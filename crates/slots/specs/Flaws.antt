@@ -1,5 +1,5 @@
 -- Why an image cannot be taken into use: the first of these that fits.
-use Rattle.std.specs.Prelude.{ℕ, ◌+◌, ◌%◌, Bool, cond, not, List, [], ◌∷◌, length, Some, None, Option, ◌==◌, nat_lt}
+use Rattle.std.specs.Prelude.{ℕ, ◌+◌, ◌%◌, cond, not, List, [], ◌∷◌, length, Some, None, Option, ◌==◌, nat_lt}
 use Rattle.std.specs.Option.{option_map}
 use Rattle.reading.specs.declared.site_month.SiteMonth.{SiteMonth}
 use Rattle.record.specs.Rows.{keyed}

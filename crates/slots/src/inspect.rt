@@ -3,7 +3,7 @@ ghost use Rattle.std.specs.Prelude.{◌≡◌, ◌+◌, ◌<◌, drop, is_ok, sl
 ghost use Rattle.std.specs.Result.{result_err};
 ghost use Rattle.record.specs.Rows.{vacant};
 ghost use Rattle.slots.specs.Cuts.{slot_count, slots_of, table_of, lawful_image};
-ghost use Rattle.slots.specs.Flaws.{size_flaw, unlawful_from, again as again-in, twice_from, flaw_of};
+ghost use Rattle.slots.specs.Flaws.{size_flaw, unlawful_from, again as again_in, twice_from, flaw_of};
 
 use crate::cut::{count, place, slot_at};
 use crate::flaw::Flaw;
@@ -70,7 +70,7 @@ fn check_site_months(bytes: &[u8]) -> Result<(), Flaw>
 // The first later slot with the site month of this one.
 fn repeated(bytes: &[u8], slot: usize) -> Option<usize>
     requires { slot < slot_count bytes.now }
-    ensures { result ≡ again-in slot (slice_index_or (table_of bytes.now) slot vacant) (drop (slot + 1) (table_of bytes.now)) }
+    ensures { result ≡ again_in slot (slice_index_or (table_of bytes.now) slot vacant) (drop (slot + 1) (table_of bytes.now)) }
 {
     match head(slot_at(bytes, slot)) {
         Some(at) => place(bytes, slot + 1, at),

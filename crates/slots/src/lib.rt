@@ -1,4 +1,6 @@
 // A retentive image as slots: searching it, and whether it can be taken into use.
+#![tactic(auto)]
+
 mod cut;
 mod flaw;
 mod inspect;

@@ -1,7 +1,7 @@
 -- A row of a table written over: what is held by key afterwards, how many are, and that the table stays lawful.
-use Rattle.std.proofs.Common.{◌≡◌, ℕ, zero, suc, ◌+◌, ◌<◌, ◌≤◌, Bool, true, false, cond, not, ◌&&◌, eqb, List, [], ◌∷◌, length, get_or, set, replicate, is_some, Some, None, Option, sym, refl, ap, ◌∙◌, subst, ap₂, ⊎_elim, arith}
+use Rattle.std.proofs.Common.{◌≡◌, ℕ, zero, suc, ◌+◌, ◌<◌, ◌≤◌, Bool, true, false, cond, not, ◌&&◌, eqb, List, [], ◌∷◌, length, get_or, set, replicate, is_some, Some, None, Option, sym, refl, ap, ◌∙◌, ⊎_elim, arith}
 use Rattle.std.specs.List.{list_all}
-use Rattle.std.proofs.lemmas.Bool.{and_parts, and_from, and_cases, both_ways, cond-true, cond-false, cond_both, cases_Bool, not_from_false, not-true, or_cases}
+use Rattle.std.proofs.lemmas.Bool.{and_parts, and_from, both_ways, cond-true, cond-false, cond_both, not_from_false, not-true, or_cases}
 use Rattle.reading.specs.declared.site_month.SiteMonth.{SiteMonth}
 use Rattle.record.specs.Holding.{Holding, same, lawful_holding}
 use Rattle.record.specs.Rows.{holding, padded, lawful_row, is_vacant, tidy, vacant, keyed}
@@ -9,7 +9,7 @@ use Rattle.record.specs.States.{used}
 use Rattle.record.specs.declared.row.Row.{Row}
 use Rattle.store.specs.Meaning.{look_up, holds, once}
 use Rattle.store.specs.Table.{held_in, lawful_table}
-use Rattle.store.proofs.Keys.{same_itself, same_both, same_is, same_turned, swap, none_held, holds_rest}
+use Rattle.store.proofs.Keys.{same_both, same_is, same_turned, swap, none_held}
 
 -- The record of a row, if it is in use.
 abbrev pub own : Row → Option Holding

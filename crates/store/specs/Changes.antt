@@ -1,5 +1,5 @@
--- What the calls of a store answer and leave, by look_up and by how many records are held.
-use Rattle.std.specs.Prelude.{◌≡◌, ℕ, ◌+◌, Bool, cond, not, ◌&&◌, length, is_ok, Some, None, Option, Result, MatchOption, nat_le}
+-- What the calls of a store answer and leave, by look-up and by how many records are held.
+use Rattle.std.specs.Prelude.{◌≡◌, ◌+◌, Bool, cond, not, ◌&&◌, length, is_ok, Some, None, Option, Result, MatchOption, nat_le}
 use Rattle.std.specs.Result.{result_err}
 use Rattle.reading.specs.First.{when}
 use Rattle.reading.specs.declared.fault.Fault.{Fault}

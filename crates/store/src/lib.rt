@@ -1,4 +1,6 @@
 // Where site months live: the interface of a store.
+#![tactic(auto)]
+
 mod store;
 
 pub use store::Store;

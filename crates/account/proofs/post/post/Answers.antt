@@ -21,7 +21,7 @@ returns g c =
     let q = post at c.args.reading.now.entry in
     let l = found c.held-before.result in
     let is = c.held-before.ensures in
-    let with = c.in-ok-after.ensures in
+    let with = c.in_ok-after.ensures in
     let full = c.change.ensures.left.refused ∙ ap (λ (h : Holding). full_test h.at s) with.value in
     let decides = post_decides b s t at l is c.args.reading.now.entry with.refused ∙ ap (λ test. ruled test (Some q)) (sym full) in
-    responds b s t at l is (g.S.Store.lawful c.args.store.now).apart q Post (added c.args.reading.now.entry) refl refl (Some c.in-ok-after.after) c.change.result with.value c.change.ensures.left c.change.ensures.answer decides
+    responds b s t at l is (g.S.Store.lawful c.args.store.now).apart q Post (added c.args.reading.now.entry) refl refl (Some c.in_ok-after.after) c.change.result with.value c.change.ensures.left c.change.ensures.answer decides

@@ -6,13 +6,13 @@ use Rattle.account.proofs.Filling.{fill_more, fill_all}
 use Rattle.account.proofs.Weights.{difference_fits, difference_read}
 use Rattle.account.proofs.settle.differences.Goals as goal
 
-pub overflow-sub-amounts : goal.overflow-sub-amounts
-overflow-sub-amounts g c =
+pub overflow_sub-amounts : goal.overflow_sub-amounts
+overflow_sub-amounts g c =
     let b = g.B.Book.meaning c.args.book.now in
     let laws = g.met.B.Book.lawful c.args.book.now in
     let es = c.readings.result.now in
     let fs = c.readings-2.result.now in
-    let is = difference_read b laws es fs c.readings.ensures.few c.readings-2.ensures.few _ _ c.settlements-settled-before.ensures c.settlements-settled-after.ensures c.loop-line.line c.loop-line-test.true in
+    let is = difference_read b laws es fs c.readings.ensures.few c.readings-2.ensures.few _ _ c.settlements-settled_before.ensures c.settlements-settled_after.ensures c.loop-line.line c.loop-line-test.true in
     subst (SFits w32) (sym is) (difference_fits b laws es fs c.readings.ensures.few c.readings-2.ensures.few c.loop-line.line)
 
 pub loop-line-preserved : goal.loop-line-preserved
@@ -24,9 +24,9 @@ loop-line-preserved g c =
     let few = subst Few c.readings.ensures.value c.readings.ensures.few in
     let more = subst Few c.readings-2.ensures.value c.readings-2.ensures.few in
     let line = c.loop-line.line in
-    let settled_before = c.settlements-settled-before.ensures ∙ ap (settlements b) c.readings.ensures.value in
-    let settled-after = c.settlements-settled-after.ensures ∙ ap (settlements b) c.readings-2.ensures.value in
-    let is = difference_read b laws es fs few more _ _ settled_before settled-after line c.loop-line-test.true in
+    let settled_before = c.settlements-settled_before.ensures ∙ ap (settlements b) c.readings.ensures.value in
+    let settled_after = c.settlements-settled_after.ensures ∙ ap (settlements b) c.readings-2.ensures.value in
+    let is = difference_read b laws es fs few more _ _ settled_before settled_after line c.loop-line-test.true in
     let fits = subst (SFits w32) (sym is) (difference_fits b laws es fs few more line) in
     fill_more (difference b es fs) c.loop-line.amounts line c.loop-line.invariant _ (to_z-of_z w32 _ fits ∙ is) c.loop-line-test.true
 

@@ -5,8 +5,8 @@ use Rattle.account.proofs.Filling.{fill_more, fill_all}
 use Rattle.account.proofs.Weights.{fit_settlement}
 use Rattle.account.proofs.settle.settlements.Goals as goal
 
-pub overflow-cast-amounts : goal.overflow-cast-amounts
-overflow-cast-amounts g c =
+pub overflow_cast-amounts : goal.overflow_cast-amounts
+overflow_cast-amounts g c =
     let b = g.B.Book.meaning c.args.book.now in
     let bound = (g.met.B.Book.lawful c.args.book.now).bounded c.loop-line.line c.weigh.result c.weigh.ensures.bound in
     fit_settlement c.settle.result (omega (arith, c.settle.ensures))

@@ -6,10 +6,10 @@ use Rattle.account.proofs.Weights.{within_at}
 use Rattle.account.proofs.settle.weigh.Goals as goal
 
 pub unreachable-requires : goal.unreachable-requires
-unreachable-requires g c = both_ways _ c.in-default.ensures.cases (within_at c.args.readings.now c.loop-entry.entry-index _ c.loop-entry-test.true c.requires.each)
+unreachable-requires g c = both_ways _ c.in_default.ensures.cases (within_at c.args.readings.now c.loop-entry.entry-index _ c.loop-entry-test.true c.requires.each)
 
-pub overflow-add-sum : goal.overflow-add-sum
-overflow-add-sum g c =
+pub overflow_add-sum : goal.overflow_add-sum
+overflow_add-sum g c =
     let light = (g.met.B.Book.lawful c.args.book.now).light c.in-Some.reading.entry c.args.line c.in-Some.reading.within in
     omega (arith, c.weight-sum.ensures)
 

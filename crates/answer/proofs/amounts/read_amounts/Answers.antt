@@ -8,40 +8,40 @@ use Rattle.answer.specs.Kinds.{amounts_kind, amounts_length}
 use Rattle.answer.proofs.Reading.{no_kind, length_of, one_line}
 use Rattle.answer.proofs.amounts.read_amounts.Goals as goal
 
-pub returns-in-err-frame : goal.returns-in-err-frame
-returns-in-err-frame c =
-    let p = err_from_is_err_and c.from-residual.result c.from-residual.ensures.1 in
-    let refused = line_stops amounts_length (λ _. []) c.args.line.now _ c.in-err-frame.ensures.refused in
+pub returns-in_err-frame : goal.returns-in_err-frame
+returns-in_err-frame c =
+    let p = err_from_is_err_and c.from_residual.result c.from_residual.ensures.1 in
+    let refused = line_stops amounts_length (λ _. []) c.args.line.now _ c.in_err-frame.ensures.refused in
     rw (p.1, p.2) record { refused = refused; value = tt; after = refl; spelling = tt }
 
-pub returns-in-err-kind : goal.returns-in-err-kind
-returns-in-err-kind c =
-    let p = err_from_is_err_and c.from-residual-in-err-kind.result c.from-residual-in-err-kind.ensures.1 in
-    let read = c.in-ok-frame.ensures in
-    let frame = held c.in-ok-frame.frame in
-    let unserved = no_kind c.kind.result frame _ c.kind.ensures c.in-err-kind.ensures.refused in
+pub returns-in_err-kind : goal.returns-in_err-kind
+returns-in_err-kind c =
+    let p = err_from_is_err_and c.from_residual-in_err-kind.result c.from_residual-in_err-kind.ensures.1 in
+    let read = c.in_ok-frame.ensures in
+    let frame = held c.in_ok-frame.frame in
+    let unserved = no_kind c.kind.result frame _ c.kind.ensures c.in_err-kind.ensures.refused in
     let refused = kind_stops amounts_length (λ _. []) c.args.line.now frame read.value read.refused _ unserved in
     rw (p.1, p.2) record { refused = refused; value = tt; after = refl; spelling = tt }
 
-pub returns-in-err-expect : goal.returns-in-err-expect
-returns-in-err-expect c =
-    let p = err_from_is_err_and c.from-residual-in-err-expect.result c.from-residual-in-err-expect.ensures.1 in
-    let read = c.in-ok-frame.ensures in
-    let frame = held c.in-ok-frame.frame in
-    let served = length_of c.kind.result _ frame c.kind.ensures c.in-ok-kind.ensures.value in
-    let refused = payload_stops amounts_length (λ _. []) c.args.line.now frame read.value read.refused 52 served _ c.in-err-expect.ensures.refused in
+pub returns-in_err-expect : goal.returns-in_err-expect
+returns-in_err-expect c =
+    let p = err_from_is_err_and c.from_residual-in_err-expect.result c.from_residual-in_err-expect.ensures.1 in
+    let read = c.in_ok-frame.ensures in
+    let frame = held c.in_ok-frame.frame in
+    let served = length_of c.kind.result _ frame c.kind.ensures c.in_ok-kind.ensures.value in
+    let refused = payload_stops amounts_length (λ _. []) c.args.line.now frame read.value read.refused 52 served _ c.in_err-expect.ensures.refused in
     rw (p.1, p.2) record { refused = refused; value = tt; after = refl; spelling = tt }
 
 pub returns : goal.returns
 returns c =
     let line = c.args.line.now in
-    let read = c.in-ok-frame.ensures in
-    let frame = held c.in-ok-frame.frame in
+    let read = c.in_ok-frame.ensures in
+    let frame = held c.in_ok-frame.frame in
     let byte = c.kind.ensures in
-    let named = c.in-ok-kind.ensures.value in
+    let named = c.in_ok-kind.ensures.value in
     let served = length_of c.kind.result _ frame byte named in
-    let whole = c.in-ok-expect.ensures in
-    let amounts = c.take-amounts.ensures in
+    let whole = c.in_ok-expect.ensures in
+    let amounts = c.take_amounts.ensures in
     record {
       refused = fields_decide amounts_length (λ _. []) line frame read.value read.refused 52 served _ whole.refused refl;
       value = ap amounts_kind (sym (byte ∙ ap kind_of read.value)) ∙ named;

@@ -9,7 +9,7 @@ pub loop-i-preserved : goal.loop-i-preserved
 loop-i-preserved c =
     let amounts = c.loop-i.amounts in
     let i = c.loop-i.i in
-    let is = to_z-of_z w32 c.cast-signed.result (record { sfits = c.cast-signed.type-inv }) ∙ c.cast-signed.ensures ∙ ap (to_z w32) c.number.ensures.value in (
+    let is = to_z-of_z w32 c.cast_signed.result (record { sfits = c.cast_signed.type_inv }) ∙ c.cast_signed.ensures ∙ ap (to_z w32) c.number.ensures.value in (
       length-set amounts i _ ∙ c.loop-i.invariant.0,
       read_more (held c.args.frame.now) amounts i c.requires c.loop-i.invariant.0 c.loop-i.invariant.1 _ c.loop-i-test.true is,
     )

@@ -11,7 +11,7 @@ loop-i-preserved c =
     let i = c.loop-i.i in
     let fits : SFits w32 (get_or amounts i (pos 0)) = search rules in (
       simp length-set c.loop-i.invariant.0,
-      write_more amounts c.loop-i.payload c.to-be-bytes.result i (omega arith) (omega arith) fits c.to-be-bytes.ensures c.loop-i.invariant.1,
+      write_more amounts c.loop-i.payload c.to_be_bytes.result i (omega arith) (omega arith) fits c.to_be_bytes.ensures c.loop-i.invariant.1,
     )
 
 pub returns : goal.returns

@@ -5,8 +5,8 @@ use Rattle.oregon.proofs.quantity.per_kw.Goals as goal
 bounded : (c : goal.After-from-3) → c.from.result * c.from-2.result * c.from-3.result ≤ 65535 * 10000 * 10157
 bounded c = three_bounded c.from.result c.from-2.result c.from-3.result 65535 10000 10157 (omega arith) (omega arith) (omega arith)
 
-pub overflow-mul-result-3 : goal.overflow-mul-result-3
-overflow-mul-result-3 c = record { fits = omega (arith, bounded c) }
+pub overflow_mul-result-3 : goal.overflow_mul-result-3
+overflow_mul-result-3 c = record { fits = omega (arith, bounded c) }
 
 pub returns : goal.returns
 returns c =

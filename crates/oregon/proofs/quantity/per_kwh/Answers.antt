@@ -5,8 +5,8 @@ use Rattle.oregon.proofs.quantity.per_kwh.Goals as goal
 bounded : (c : goal.After-from-3) → c.from.result * c.from-2.result * c.from-3.result ≤ 65535 * 999999 * 10157
 bounded c = three_bounded c.from.result c.from-2.result c.from-3.result 65535 999999 10157 (omega arith) (omega arith) (omega arith)
 
-pub overflow-mul-result-2 : goal.overflow-mul-result-2
-overflow-mul-result-2 c = record { fits = omega (arith, bounded c) }
+pub overflow_mul-result-2 : goal.overflow_mul-result-2
+overflow_mul-result-2 c = record { fits = omega (arith, bounded c) }
 
 pub returns : goal.returns
 returns c =

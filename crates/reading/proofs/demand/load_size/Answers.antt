@@ -8,7 +8,7 @@ pub loop-kw-preserved : goal.loop-kw-preserved
 loop-kw-preserved c =
     let g = greatest_more c.args.demand c.args.earlier.now c.loop-kw.kw-index c.loop-kw-test.true in
     let s = second_more c.args.demand c.args.earlier.now c.loop-kw.kw-index c.loop-kw-test.true in
-    ((cc), (cc), (c.max-first.type-inv, c.max-second.type-inv))
+    ((cc), (cc), (c.max-first.type_inv, c.max-second.type_inv))
 
 pub returns-then-second-eq0 : goal.returns-then-second-eq0
 returns-then-second-eq0 c =

@@ -6,6 +6,6 @@ pub returns : goal.returns
 returns c =
     let room : c.args.count < length c.args.entries.now = omega arith in
     record {
-      front = inserted_front c.args.entries.now c.args.count c.args.place c.args.entry c.rotate-right.new.self room c.requires.1 c.rotate-right.ensures.after;
-      rest = inserted_rest c.args.entries.now c.args.count c.args.place c.args.entry c.rotate-right.new.self room c.requires.1 c.rotate-right.ensures.after;
+      front = inserted_front c.args.entries.now c.args.count c.args.place c.args.entry c.rotate_right.new.self room c.requires.1 c.rotate_right.ensures.after;
+      rest = inserted_rest c.args.entries.now c.args.count c.args.place c.args.entry c.rotate_right.new.self room c.requires.1 c.rotate_right.ensures.after;
     }

@@ -8,8 +8,8 @@ number-requires c =
     let l = inside_at (length (held c.args.frame.now)) c.args.limits.now c.loop-limit.limit-index c.requires c.loop-limit-test.true in
     (l.first, (l.ends, l.narrow))
 
-pub overflow-cast-result : goal.overflow-cast-result
-overflow-cast-result c =
+pub overflow_cast-result : goal.overflow_cast-result
+overflow_cast-result c =
     let l = inside_at (length (held c.args.frame.now)) c.args.limits.now c.loop-limit.limit-index c.requires c.loop-limit-test.true in
     record { fits = omega arith }
 

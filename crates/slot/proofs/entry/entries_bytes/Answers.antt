@@ -8,7 +8,7 @@ use Rattle.slot.proofs.entry.entries_bytes.Goals as goal
 pub loop-i-preserved : goal.loop-i-preserved
 loop-i-preserved c = (
   search (rules, places),
-  write_more c.args.entries.now c.loop-i.bytes _ c.loop-i.i _ (omega arith) (omega arith) (c.copy-from-slice.ensures.after ∙ c.entry_bytes.ensures) c.loop-i.invariant.1,
+  write_more c.args.entries.now c.loop-i.bytes _ c.loop-i.i _ (omega arith) (omega arith) (c.copy_from_slice.ensures.after ∙ c.entry_bytes.ensures) c.loop-i.invariant.1,
 )
 
 pub returns : goal.returns

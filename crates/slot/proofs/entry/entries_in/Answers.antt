@@ -7,7 +7,7 @@ use Rattle.slot.proofs.entry.entries_in.Goals as goal
 pub loop-i-preserved : goal.loop-i-preserved
 loop-i-preserved c = (
   length-set c.loop-i.entries c.loop-i.i _ ∙ c.loop-i.invariant.0,
-  read_more c.loop-i.entries c.args.bytes.now c.loop-i.i _ (omega arith) c.entry-in.ensures c.loop-i.invariant.1,
+  read_more c.loop-i.entries c.args.bytes.now c.loop-i.i _ (omega arith) c.entry_in.ensures c.loop-i.invariant.1,
 )
 
 pub returns : goal.returns

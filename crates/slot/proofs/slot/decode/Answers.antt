@@ -16,10 +16,10 @@ returns-then-slot-ne-SLOT c =
       | then-slot-ne-SLOT-via-else-slot-ne-SLOT+then-slot-gt-CLOSED w ↦ record { refused = other_state slot w.if-slot-gt-CLOSED.true; value = tt; spelling = tt }
     ]
 
-pub returns-then-all-zero : goal.returns-then-all-zero
-returns-then-all-zero c =
+pub returns-then-all_zero : goal.returns-then-all_zero
+returns-then-all_zero c =
     let slot = c.args.slot.now in
-    let zero = sym c.if-all-zero.ensures in
+    let zero = sym c.if-all_zero.ensures in
     record {
       refused = zeros_lawful slot c.if-slot-ne-SLOT.false c.if-slot-gt-CLOSED.false zero;
       value = zeros_row slot c.if-slot-ne-SLOT.false c.if-slot-gt-CLOSED.false zero;
@@ -29,20 +29,20 @@ returns-then-all-zero c =
 pub returns-in-Some : goal.returns-in-Some
 returns-in-Some c =
     let slot = c.args.slot.now in
-    let row = c.in-Some.ensures.cases ∙ c.row-in.ensures in
+    let row = c.in-Some.ensures.cases ∙ c.row_in.ensures in
     let lawful = ap lawful_row (sym row) ∙ c.in-Some.kept.lawful in
     record {
       refused = row_lawful slot c.if-slot-ne-SLOT.false c.if-slot-gt-CLOSED.false lawful;
       value = row;
-      spelling = sym (ap slot_bytes row ∙ slot_again slot c.if-slot-ne-SLOT.false c.if-slot-gt-CLOSED.false (slice_below slot c.type-inv.slot));
+      spelling = sym (ap slot_bytes row ∙ slot_again slot c.if-slot-ne-SLOT.false c.if-slot-gt-CLOSED.false (slice_below slot c.type_inv.slot));
     }
 
 pub returns-in-None : goal.returns-in-None
 returns-in-None c =
     let slot = c.args.slot.now in
-    let unlawful = ap lawful_row (sym c.row-in.ensures) ∙ c.in-None.ensures.cases in
+    let unlawful = ap lawful_row (sym c.row_in.ensures) ∙ c.in-None.ensures.cases in
     record {
-      refused = neither slot c.if-slot-ne-SLOT.false c.if-slot-gt-CLOSED.false (slice_below slot c.type-inv.slot) (sym c.if-all-zero.ensures) unlawful;
+      refused = neither slot c.if-slot-ne-SLOT.false c.if-slot-gt-CLOSED.false (slice_below slot c.type_inv.slot) (sym c.if-all_zero.ensures) unlawful;
       value = tt;
       spelling = tt;
     }

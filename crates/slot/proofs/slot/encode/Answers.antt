@@ -11,10 +11,10 @@ pub returns : goal.returns
 returns c =
     let row = c.args.kept.now.row in
     let lawful : tidy row ≡ true = or_right (is_vacant row) (lawful_row row) c.args.kept.now.lawful in
-    let header = c.copy-from-slice.ensures.after ∙ c.header_bytes.ensures in
-    let entries = c.copy-from-slice-2.ensures.after ∙ c.entries-bytes.ensures in
+    let header = c.copy_from_slice.ensures.after ∙ c.header_bytes.ensures in
+    let entries = c.copy_from_slice-2.ensures.after ∙ c.entries_bytes.ensures in
     let written = both header entries ∙ ap slot_bytes c.row-row.ensures.value in
-    let value = both_put c.copy-from-slice.new.self c.copy-from-slice-2.new.self _ c.copy-from-slice.ensures.len refl ∙ written in
+    let value = both_put c.copy_from_slice.new.self c.copy_from_slice-2.new.self _ c.copy_from_slice.ensures.len refl ∙ written in
     record {
       value = value;
       reads_back = ap row_in value ∙ row_back row lawful;

@@ -14,7 +14,7 @@ pub loop-slot-preserved : goal.loop-slot-preserved
 loop-slot-preserved c =
     let bytes = c.args.bytes.now in
     let within : c.loop-slot.slot < length (table_of bytes) = let n = table_long bytes in omega arith in
-    twice_on (table_of bytes) c.loop-slot.slot _ c.loop-slot.invariant within c.in-default.ensures
+    twice_on (table_of bytes) c.loop-slot.slot _ c.loop-slot.invariant within c.in_default.ensures
 
 pub returns : goal.returns
 returns c =

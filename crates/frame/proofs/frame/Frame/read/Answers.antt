@@ -15,19 +15,19 @@ returns-then-count-eq1 c =
     let bad : (eqb (n % 2) 1 || (ltb n 6 || ltb 128 n)) ≡ true = grind (arith, nat_tests) in
     record { refused = rw bad; value = tt; spelling = tt }
 
-pub invariant-of-result : goal.invariant-of-result
-invariant-of-result c =
+pub invariant_of-result : goal.invariant_of-result
+invariant_of-result c =
     let line = c.args.line.now in
-    let held = c.in-ok-decode.ensures.value in
-    (omega arith, (omega arith, (ap all_bytes held ∙ each_below (bytes_of line) (bytes_below line), (sealed_part c.decode.new.bytes (length line / 2) c.sum-of.result c.sum-of.ensures c.if-sum-of-ne0.false, tt))))
+    let held = c.in_ok-decode.ensures.value in
+    record { least = omega arith; most = omega arith; fit = ap all_bytes held ∙ each_below (bytes_of line) (bytes_below line); checked = sealed_part c.decode.new.bytes (length line / 2) c.sum_of.result c.sum_of.ensures c.if-sum_of-ne0.false }
 
 pub returns : goal.returns
 returns c =
     let line = c.args.line.now in
-    let held = c.in-ok-decode.ensures.value in
-    let digits = c.in-ok-decode.ensures.refused in
+    let held = c.in_ok-decode.ensures.value in
+    let digits = c.in_ok-decode.ensures.refused in
     let even : length line % 2 ≡ 0 = omega arith in
-    let part = sealed_part c.decode.new.bytes (length line / 2) c.sum-of.result c.sum-of.ensures c.if-sum-of-ne0.false in
+    let part = sealed_part c.decode.new.bytes (length line / 2) c.sum_of.result c.sum_of.ensures c.if-sum_of-ne0.false in
     record {
       refused = accepted line even (omega arith) (omega arith) digits (subst Sealed held part);
       value = held;

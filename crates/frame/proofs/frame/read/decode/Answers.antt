@@ -4,19 +4,19 @@ use Rattle.frame.specs.Line.{bytes_of}
 use Rattle.frame.proofs.Decoding.{high_stops, low_stops, both_pass, byte_more, all_pass, all_bytes}
 use Rattle.frame.proofs.frame.read.decode.Goals as goal
 
-pub returns-in-err-high : goal.returns-in-err-high
-returns-in-err-high c =
-    let p = err_from_is_err_and c.from-residual.result c.from-residual.ensures.1 in
+pub returns-in_err-high : goal.returns-in_err-high
+returns-in_err-high c =
+    let p = err_from_is_err_and c.from_residual.result c.from_residual.ensures.1 in
     let more : 2 * c.loop-i.i + 1 < length c.args.line.now = omega arith in
     rw (p.1, p.2)
-    record { refused = high_stops c.args.line.now c.loop-i.i more c.loop-i.invariant.0 _ c.in-err-high.ensures.refused; value = tt }
+    record { refused = high_stops c.args.line.now c.loop-i.i more c.loop-i.invariant.0 _ c.in_err-high.ensures.refused; value = tt }
 
-pub returns-in-err-low : goal.returns-in-err-low
-returns-in-err-low c =
-    let p = err_from_is_err_and c.from-residual-in-err-low.result c.from-residual-in-err-low.ensures.1 in
+pub returns-in_err-low : goal.returns-in_err-low
+returns-in_err-low c =
+    let p = err_from_is_err_and c.from_residual-in_err-low.result c.from_residual-in_err-low.ensures.1 in
     let more : 2 * c.loop-i.i + 1 < length c.args.line.now = omega arith in
     rw (p.1, p.2)
-    record { refused = low_stops c.args.line.now c.loop-i.i more c.loop-i.invariant.0 c.in-ok-high.high _ c.in-ok-high.ensures.value c.in-err-low.ensures.refused; value = tt }
+    record { refused = low_stops c.args.line.now c.loop-i.i more c.loop-i.invariant.0 c.in_ok-high.high _ c.in_ok-high.ensures.value c.in_err-low.ensures.refused; value = tt }
 
 pub loop-i-preserved : goal.loop-i-preserved
 loop-i-preserved c =
@@ -24,8 +24,8 @@ loop-i-preserved c =
     let i = c.loop-i.i in
     let more : 2 * i + 1 < length line = omega arith in
     let room : i < length c.loop-i.bytes = omega (arith, c.loop-i.invariant.2, c.requires) in
-    let high = c.in-ok-high.ensures.value in
-    let low = c.in-ok-low.ensures.value in (
+    let high = c.in_ok-high.ensures.value in
+    let low = c.in_ok-low.ensures.value in (
       both_pass line i more c.loop-i.invariant.0 _ _ high low,
       byte_more line i more c.loop-i.invariant.0 c.loop-i.bytes _ _ high low room c.loop-i.invariant.1,
       length-set c.loop-i.bytes i _ ∙ c.loop-i.invariant.2,

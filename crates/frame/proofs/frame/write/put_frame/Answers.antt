@@ -8,7 +8,7 @@ returns c =
     let bs = c.args.bytes.now in
     let payload = c.args.payload.now in
     let n = length payload in
-    let front : put_mid 2 (n + 2 - 2) (set (set bs 0 c.args.kind) 1 n) c.copy-from-slice.new.self ≡ (c.args.kind ∷ n ∷ payload) ++ drop (n + 2) bs =
-    ap (put_mid 2 (n + 2 - 2) (set (set bs 0 c.args.kind) 1 n)) c.copy-from-slice.ensures.after
+    let front : put_mid 2 (n + 2 - 2) (set (set bs 0 c.args.kind) 1 n) c.copy_from_slice.new.self ≡ (c.args.kind ∷ n ∷ payload) ++ drop (n + 2) bs =
+    ap (put_mid 2 (n + 2 - 2) (set (set bs 0 c.args.kind) 1 n)) c.copy_from_slice.ensures.after
     ∙ body_front bs payload c.args.kind n refl (omega arith) in
-    frame_front bs _ payload c.args.kind n c.check-of.result refl (omega arith) front c.check-of.ensures
+    frame_front bs _ payload c.args.kind n c.check_of.result refl (omega arith) front c.check_of.ensures

@@ -7,5 +7,5 @@ returns c =
     let bytes = c.args.self.now.bytes.now in
     let i = c.args.i in
     let n : 424 * i + 424 - 424 * i ≡ 424 = omega arith in
-    ap₂ (λ slot rest. take (424 * i) bytes ++ (slot ++ rest)) c.copy-from-slice.ensures.after
+    ap₂ (λ slot rest. take (424 * i) bytes ++ (slot ++ rest)) c.copy_from_slice.ensures.after
     (ap (λ k. drop k (drop (424 * i) bytes)) n ∙ drop-drop 424 (424 * i) bytes)

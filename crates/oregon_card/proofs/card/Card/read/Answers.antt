@@ -6,16 +6,16 @@ use Rattle.oregon_card.specs.Layout.{card_length, card_field_tests, values_in}
 use Rattle.oregon_card.proofs.Cards.{no_card, card_named, cap_stops, cap_passes, same_values}
 use Rattle.oregon_card.proofs.card.Card.read.Goals as goal
 
-pub returns-in-err-frame : goal.returns-in-err-frame
-returns-in-err-frame c =
-    let p = err_from_is_err_and c.from-residual.result c.from-residual.ensures.1 in
+pub returns-in_err-frame : goal.returns-in_err-frame
+returns-in_err-frame c =
+    let p = err_from_is_err_and c.from_residual.result c.from_residual.ensures.1 in
     rw (p.1, p.2)
-    record { refused = line_stops card_length card_field_tests c.args.line.now _ c.in-err-frame.ensures.refused; value = tt }
+    record { refused = line_stops card_length card_field_tests c.args.line.now _ c.in_err-frame.ensures.refused; value = tt }
 
 pub returns-then-kind-ne-KIND : goal.returns-then-kind-ne-KIND
 returns-then-kind-ne-KIND c =
-    let f = held c.in-ok-frame.frame in
-    let read = c.in-ok-frame.ensures in
+    let f = held c.in_ok-frame.frame in
+    let read = c.in_ok-frame.ensures in
     record {
       refused =
           kind_stops card_length card_field_tests c.args.line.now f read.value read.refused _
@@ -23,39 +23,39 @@ returns-then-kind-ne-KIND c =
       value = tt;
     }
 
-pub returns-in-err-expect : goal.returns-in-err-expect
-returns-in-err-expect c =
-    let p = err_from_is_err_and c.from-residual-in-err-expect.result c.from-residual-in-err-expect.ensures.1 in
-    let f = held c.in-ok-frame.frame in
-    let read = c.in-ok-frame.ensures in
+pub returns-in_err-expect : goal.returns-in_err-expect
+returns-in_err-expect c =
+    let p = err_from_is_err_and c.from_residual-in_err-expect.result c.from_residual-in_err-expect.ensures.1 in
+    let f = held c.in_ok-frame.frame in
+    let read = c.in_ok-frame.ensures in
     rw (p.1, p.2)
     record {
       refused =
           payload_stops card_length card_field_tests c.args.line.now f read.value read.refused 32
-          (card_named c.kind.result f c.kind.ensures c.if-kind-ne-KIND.false) _ c.in-err-expect.ensures.refused;
+          (card_named c.kind.result f c.kind.ensures c.if-kind-ne-KIND.false) _ c.in_err-expect.ensures.refused;
       value = tt;
     }
 
 pub returns-then-cap-gt99999999 : goal.returns-then-cap-gt99999999
 returns-then-cap-gt99999999 c =
-    let f = held c.in-ok-frame.frame in
-    let read = c.in-ok-frame.ensures in
+    let f = held c.in_ok-frame.frame in
+    let read = c.in_ok-frame.ensures in
     record {
       refused =
           fields_decide card_length card_field_tests c.args.line.now f read.value read.refused 32
-          (card_named c.kind.result f c.kind.ensures c.if-kind-ne-KIND.false) _ c.in-ok-expect.ensures.refused
+          (card_named c.kind.result f c.kind.ensures c.if-kind-ne-KIND.false) _ c.in_ok-expect.ensures.refused
           (cap_stops c.number-cap.result f c.number-cap.ensures.value c.if-cap-gt99999999.true);
       value = tt;
     }
 
 pub returns : goal.returns
 returns c =
-    let f = held c.in-ok-frame.frame in
-    let read = c.in-ok-frame.ensures in
+    let f = held c.in_ok-frame.frame in
+    let read = c.in_ok-frame.ensures in
     record {
       refused =
           fields_decide card_length card_field_tests c.args.line.now f read.value read.refused 32
-          (card_named c.kind.result f c.kind.ensures c.if-kind-ne-KIND.false) _ c.in-ok-expect.ensures.refused
+          (card_named c.kind.result f c.kind.ensures c.if-kind-ne-KIND.false) _ c.in_ok-expect.ensures.refused
           (cap_passes c.number-cap.result f c.number-cap.ensures.value c.if-cap-gt99999999.false);
       value = same_values _ _ _ _ _ _ c.number-cap.ensures.value c.rates.ensures.value c.rates-2.ensures.value ∙ ap values_in read.value;
     }

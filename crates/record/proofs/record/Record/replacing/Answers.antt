@@ -9,12 +9,12 @@ use Rattle.record.proofs.Edited.{replacing_is, replacing_lawful}
 use Rattle.record.proofs.Placing.{stands_here}
 use Rattle.record.proofs.record.Record.replacing.Goals as goal
 
-pub invariant-of-result : goal.invariant-of-result
-invariant-of-result c =
+pub invariant_of-result : goal.invariant_of-result
+invariant_of-result c =
     let row = c.args.self.now.row in
     let each : lawful_reading c.entry-entry.result ≡ true = search rules in
     let at : StandsAt c.entry-entry.result.meter (take row.count row.entries) c.in-Ok.place = rw (← c.readings.ensures.value) c.in-Ok.ensures.place in
-    (replacing_lawful row c.args.self.now.lawful c.entry-entry.result c.in-Ok.place at each, tt)
+    record { lawful = replacing_lawful row c.args.self.now.lawful c.entry-entry.result c.in-Ok.place at each }
 
 pub returns : goal.returns
 returns c =

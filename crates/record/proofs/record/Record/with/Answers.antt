@@ -1,4 +1,4 @@
-use Rattle.std.proofs.Common.{◌≡◌, ◌+◌, true, false, leb, List, length, take, is_some, sym, ap, ◌∙◌, subst, arith, rules}
+use Rattle.std.proofs.Common.{◌≡◌, true, false, leb, List, length, take, is_some, sym, ap, ◌∙◌, subst, arith, rules}
 use Rattle.std.specs.List.{insert}
 use Rattle.std.proofs.lemmas.List.{length-take-le}
 use Rattle.std.proofs.lemmas.Bool.{le-leb, lt-leb}
@@ -22,12 +22,12 @@ returns-then-row-eq-READINGS c =
     let many : leb 16 (length es) ≡ true = le-leb 16 (length es) (let n = length-take-le row.count row.entries (omega arith) in let full = c.if-row-eq-READINGS.true in omega arith) in
     record { refused = rw (not, many); value = tt; meters = tt }
 
-pub invariant-of-result : goal.invariant-of-result
-invariant-of-result c =
+pub invariant_of-result : goal.invariant_of-result
+invariant_of-result c =
     let row = c.args.self.now.row in
     let each : lawful_reading c.entry-entry.result ≡ true = search rules in
     let at : BelongsAt c.entry-entry.result.meter (take row.count row.entries) c.in-Err.place = rw (← c.readings.ensures.value) c.in-Err.ensures.place in
-    (with_lawful row c.args.self.now.lawful c.entry-entry.result c.in-Err.place c.insert.new.entries at c.insert.ensures.front each c.if-row-eq-READINGS.false c.insert.ensures.rest, tt)
+    record { lawful = with_lawful row c.args.self.now.lawful c.entry-entry.result c.in-Err.place c.insert.new.entries at c.insert.ensures.front each c.if-row-eq-READINGS.false c.insert.ensures.rest }
 
 pub returns : goal.returns
 returns c =

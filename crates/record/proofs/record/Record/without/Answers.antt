@@ -1,4 +1,4 @@
-use Rattle.std.proofs.Common.{◌≡◌, true, List, take, is_some, sym, ap, ◌∙◌}
+use Rattle.std.proofs.Common.{◌≡◌, true, List, take, is_some, ap}
 use Rattle.reading.specs.declared.entry.Entry.{Entry}
 use Rattle.record.specs.Meters.{stands, StandsAt}
 use Rattle.record.specs.States.{is_closed}
@@ -8,11 +8,11 @@ use Rattle.record.proofs.Laws.{laws}
 use Rattle.record.proofs.Placing.{stands_here}
 use Rattle.record.proofs.record.Record.without.Goals as goal
 
-pub invariant-of-result : goal.invariant-of-result
-invariant-of-result c =
+pub invariant_of-result : goal.invariant_of-result
+invariant_of-result c =
     let row = c.args.self.now.row in
     let at : StandsAt c.args.meter (take row.count row.entries) c.in-Ok.place = rw (← c.readings.ensures.value) c.in-Ok.ensures.place in
-    (without_lawful row c.args.self.now.lawful c.args.meter c.in-Ok.place c.remove.new.entries at c.remove.ensures.front c.if-row-eq1.false c.remove.ensures.rest, tt)
+    record { lawful = without_lawful row c.args.self.now.lawful c.args.meter c.in-Ok.place c.remove.new.entries at c.remove.ensures.front c.if-row-eq1.false c.remove.ensures.rest }
 
 pub returns : goal.returns
 returns c =

@@ -12,54 +12,54 @@ use Rattle.request.specs.Tests.{request_field_tests}
 use Rattle.request.proofs.Served.{no_kind, length_of, fields_of, requested_as}
 use Rattle.request.proofs.request.Request.read.Goals as goal
 
-pub returns-in-err-frame : goal.returns-in-err-frame
-returns-in-err-frame c =
-    let p = err_from_is_err_and c.from-residual.result c.from-residual.ensures.1 in
+pub returns-in_err-frame : goal.returns-in_err-frame
+returns-in_err-frame c =
+    let p = err_from_is_err_and c.from_residual.result c.from_residual.ensures.1 in
     rw (p.1, p.2)
     record {
-      refused = line_stops request_length request_field_tests c.args.line.now _ c.in-err-frame.ensures.refused;
+      refused = line_stops request_length request_field_tests c.args.line.now _ c.in_err-frame.ensures.refused;
       value = tt;
     }
 
-pub returns-in-err-kind : goal.returns-in-err-kind
-returns-in-err-kind c =
-    let p = err_from_is_err_and c.from-residual-in-err-kind.result c.from-residual-in-err-kind.ensures.1 in
-    let f = held c.in-ok-frame.frame in
-    let read = c.in-ok-frame.ensures in
+pub returns-in_err-kind : goal.returns-in_err-kind
+returns-in_err-kind c =
+    let p = err_from_is_err_and c.from_residual-in_err-kind.result c.from_residual-in_err-kind.ensures.1 in
+    let f = held c.in_ok-frame.frame in
+    let read = c.in_ok-frame.ensures in
     rw (p.1, p.2)
     record {
       refused =
           kind_stops request_length request_field_tests c.args.line.now f read.value read.refused _
-          (no_kind c.kind.result f _ c.kind.ensures c.in-err-kind.ensures.refused);
+          (no_kind c.kind.result f _ c.kind.ensures c.in_err-kind.ensures.refused);
       value = tt;
     }
 
-pub returns-in-err-expect : goal.returns-in-err-expect
-returns-in-err-expect c =
-    let p = err_from_is_err_and c.from-residual-in-err-expect.result c.from-residual-in-err-expect.ensures.1 in
-    let f = held c.in-ok-frame.frame in
-    let read = c.in-ok-frame.ensures in
-    let kind = c.in-ok-kind.kind in
+pub returns-in_err-expect : goal.returns-in_err-expect
+returns-in_err-expect c =
+    let p = err_from_is_err_and c.from_residual-in_err-expect.result c.from_residual-in_err-expect.ensures.1 in
+    let f = held c.in_ok-frame.frame in
+    let read = c.in_ok-frame.ensures in
+    let kind = c.in_ok-kind.kind in
     rw (p.1, p.2)
     record {
       refused =
           payload_stops request_length request_field_tests c.args.line.now f read.value read.refused (payload_length kind)
-          (length_of c.kind.result kind f c.kind.ensures c.in-ok-kind.ensures.value) _
-          (c.in-err-expect.ensures.refused ∙ ap (λ n. when (not (carries n f)) PayloadLength) c.payload.ensures);
+          (length_of c.kind.result kind f c.kind.ensures c.in_ok-kind.ensures.value) _
+          (c.in_err-expect.ensures.refused ∙ ap (λ n. when (not (carries n f)) PayloadLength) c.payload.ensures);
       value = tt;
     }
 
 pub returns : goal.returns
 returns c =
-    let f = held c.in-ok-frame.frame in
-    let read = c.in-ok-frame.ensures in
-    let kind = c.in-ok-kind.kind in
-    let named = c.in-ok-kind.ensures.value in
+    let f = held c.in_ok-frame.frame in
+    let read = c.in_ok-frame.ensures in
+    let kind = c.in_ok-kind.kind in
+    let named = c.in_ok-kind.ensures.value in
     record {
       refused =
           fields_decide request_length request_field_tests c.args.line.now f read.value read.refused (payload_length kind)
           (length_of c.kind.result kind f c.kind.ensures named) _
-          (c.in-ok-expect.ensures.refused ∙ ap (λ n. when (not (carries n f)) PayloadLength) c.payload.ensures)
+          (c.in_ok-expect.ensures.refused ∙ ap (λ n. when (not (carries n f)) PayloadLength) c.payload.ensures)
           (fields_of c.kind.result kind f _ c.kind.ensures named c.of-2.ensures.refused);
       value =
           IfOk-weaker c.of-2.result (λ q. asked q ≡ asked_in kind f) (λ q. requested (bytes_of c.args.line.now) ≡ Some (asked q))

@@ -4,14 +4,14 @@ use Rattle.record.specs.Rows.{vacant, keyed}
 use Rattle.store.proofs.Searching.{passed_more, passed_all}
 use Rattle.row_store.proofs.rows.search.position.Goals as goal
 
-pub returns-then-is-of : goal.returns-then-is-of
-returns-then-is-of c =
-    (c.loop-i-test.true, ap (keyed c.args.at) (get_or_default c.args.rows.now c.loop-i.i vacant _ c.loop-i-test.true) ∙ sym c.if-is-of.ensures)
+pub returns-then-is_of : goal.returns-then-is_of
+returns-then-is_of c =
+    (c.loop-i-test.true, ap (keyed c.args.at) (get_or_default c.args.rows.now c.loop-i.i vacant _ c.loop-i-test.true) ∙ sym c.if-is_of.ensures)
 
 pub loop-i-preserved : goal.loop-i-preserved
 loop-i-preserved c =
     passed_more c.args.at c.args.rows.now c.loop-i.i c.loop-i-test.true
-    (ap (keyed c.args.at) (get_or_default c.args.rows.now c.loop-i.i vacant _ c.loop-i-test.true) ∙ sym c.if-is-of.ensures)
+    (ap (keyed c.args.at) (get_or_default c.args.rows.now c.loop-i.i vacant _ c.loop-i-test.true) ∙ sym c.if-is_of.ensures)
     c.loop-i.invariant
 
 pub returns : goal.returns

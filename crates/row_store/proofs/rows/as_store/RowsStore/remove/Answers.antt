@@ -2,16 +2,16 @@ use Rattle.std.proofs.Common.{◌≤◌, sym, refl, subst}
 use Rattle.std.proofs.lemmas.List.{length-set}
 use Rattle.record.specs.Rows.{vacant}
 use Rattle.store.proofs.Stored.{removed_lawful, removed_row}
-use Rattle.row_store.proofs.rows.store.RowsStore.remove.Goals as goal
+use Rattle.row_store.proofs.rows.as_store.RowsStore.remove.Goals as goal
 
-pub invariant-of-self : goal.invariant-of-self
-invariant-of-self c =
+pub invariant_of-self : goal.invariant_of-self
+invariant_of-self c =
     let store = c.args.self.now in
     let rows = store.rows.now in
     let i = c.in-Some.i in
     let found = c.in-Some.ensures in
     let long = sym (length-set rows i vacant) in
-    (removed_lawful rows store.lawful i found.0 c.args.at found.1, (subst (λ m. 1 ≤ m) long store.least, (subst (λ m. m ≤ 1024) long store.most, tt)))
+    record { lawful = removed_lawful rows store.lawful i found.0 c.args.at found.1; least = subst (λ m. 1 ≤ m) long store.least; most = subst (λ m. m ≤ 1024) long store.most }
 
 pub returns : goal.returns
 returns c =

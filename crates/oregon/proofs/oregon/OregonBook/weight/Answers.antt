@@ -1,6 +1,6 @@
 use Rattle.oregon_card.specs.Reply.{values}
 use Rattle.oregon.specs.Laws.{weight_served}
-use Rattle.oregon.proofs.book.OregonBook.weight.Goals as goal
+use Rattle.oregon.proofs.oregon.OregonBook.weight.Goals as goal
 
 pub returns-in-Ok : goal.returns-in-Ok
 returns-in-Ok c =

@@ -2,7 +2,7 @@
 ghost use Rattle.std.specs.Prelude.{◌≡◌, ◌^◌, ◌≤◌};
 ghost use Rattle.reading.specs.Limits.{Limits};
 ghost use Rattle.oregon_card.specs.Reply.{values};
-ghost use Rattle.oregon.specs.Sheet.{exact as exact-on, metered as metered-on, oregon_sheet};
+ghost use Rattle.oregon.specs.Sheet.{exact as exact_on, metered as metered_on, oregon_sheet};
 ghost use Rattle.oregon.specs.Laws.{keeps};
 
 use crate::charges::by_kwh;
@@ -59,7 +59,7 @@ impl Book for Oregon {
 // What a reading weighs on a statement line: lines 0 to 8 are rounded at the meter.
 fn metered(card: &Card, schedule: Schedule, entry: &Entry, line: usize) -> u64
     requires { Limits entry.now }
-    ensures { result ≡ metered-on (values card.now) schedule entry.now line }
+    ensures { result ≡ metered_on (values card.now) schedule entry.now line }
 {
     let units = exact(card, schedule, entry, line);
     if line < 9 { rounded(units) } else { units }
@@ -68,7 +68,7 @@ fn metered(card: &Card, schedule: Schedule, entry: &Entry, line: usize) -> u64
 // What a reading costs on a statement line, in units, before it is rounded.
 fn exact(card: &Card, schedule: Schedule, entry: &Entry, line: usize) -> u64
     requires { Limits entry.now }
-    ensures value { result ≡ exact-on (values card.now) schedule entry.now line }
+    ensures value { result ≡ exact_on (values card.now) schedule entry.now line }
     ensures bound { result ≤ 10 ^ 18 }
 {
     match line {
