@@ -1,5 +1,5 @@
 -- The name of a utility on a line.
-use Rattle.std.specs.Prelude.{◌≡◌, ℕ, List, codes, ◌≢◌}
+use Rattle.std.specs.Prelude.{ℕ, List, codes, ◌≢◌}
 use Rattle.bills.specs.declared.utility.Utility.{Utility}
 use Rattle.bills.specs.declared.utility.Utility.TheVariants.{Oregon, Cooperative}
 

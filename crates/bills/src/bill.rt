@@ -3,7 +3,7 @@ ghost use Rattle.std.specs.Prelude.{◌≡◌, ℕ, ◌<◌, ◌≤◌, is_some,
 ghost use Rattle.reading.specs.Statement.{lines};
 ghost use Rattle.reading.specs.Refusal.{layer_of};
 ghost use Rattle.reading.specs.declared.fault.Layer.TheVariants as layer;
-ghost use Rattle.book.specs.declared.sense.Sense.{Sense as line-sense};
+ghost use Rattle.book.specs.declared.sense.Sense.{Sense as line_sense};
 ghost use Rattle.bills.specs.Bill.{settled, charges_below, credits_below, Billed};
 
 use crate::problem::{Field, Problem, Reason};
@@ -67,7 +67,7 @@ fn amounts<B: Book>(book: &B, reading: &Reading) -> [u64; LINES]
 
 // The sense of each statement line.
 fn senses<B: Book>(book: &B) -> [Sense; LINES]
-    ensures { (n : ℕ) (d : line-sense) → n < lines → slice_index_or result n d ≡ (B.Book.meaning book.now).sense n }
+    ensures { (n : ℕ) (d : line_sense) → n < lines → slice_index_or result n d ≡ (B.Book.meaning book.now).sense n }
 {
     let mut senses = [Sense::Charge; LINES];
     for line in 0..LINES {

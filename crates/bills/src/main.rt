@@ -1,4 +1,6 @@
 // Bills for a person at a desk: a card and readings on standard input, the amounts of each reading on standard output.
+#![tactic(auto)]
+
 mod bill;
 mod card;
 mod csv;
@@ -12,6 +14,7 @@ mod utility;
 
 use desk::{Desk, Form};
 use std::io::Read;
+use std::process::ExitCode;
 use std::{env, io};
 
 const USAGE: &str = "usage: bills [--csv]
@@ -50,15 +53,16 @@ impl Command {
     }
 }
 
-fn main(rt: HostRuntime) -> io::Result<()> {
+fn main(rt: HostRuntime) -> io::Result<ExitCode> {
     match Command::read(&rt) {
-        Command::Serve(form) => serve(&rt, form),
-        Command::Help => rt.println(USAGE),
+        Command::Serve(form) => serve(&rt, form)?,
+        Command::Help => rt.println(USAGE)?,
         Command::Unknown => {
             rt.eprintln(USAGE)?;
-            Err(io::Error::from(io::ErrorKind::InvalidInput))
+            return Ok(ExitCode::FAILURE);
         }
     }
+    Ok(ExitCode::SUCCESS)
 }
 
 // Answers lines until the input ends.

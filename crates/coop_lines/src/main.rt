@@ -1,5 +1,7 @@
 // The tariff block by the cooperative's schedule, on an image kept in a file: lines on standard input, one answer line for
 // each on standard output.
+#![tactic(auto)]
+
 ghost use Rattle.std.specs.Prelude.{◌≤◌};
 
 use account::serve;
@@ -8,6 +10,7 @@ use image_store::Image;
 use line_reader::{LineReader, write_line};
 use slot::SLOT;
 use slots::check;
+use std::process::ExitCode;
 use std::{fs, io};
 use store::Store;
 
@@ -23,16 +26,16 @@ const BUFFER: usize = 129;
 // How many slots a new image has.
 const SLOTS: usize = 64;
 
-fn main(rt: HostRuntime) -> io::Result<()> {
+fn main(rt: HostRuntime) -> io::Result<ExitCode> {
     let Some(path) = image_file::argument(&rt)? else {
         rt.eprintln(USAGE)?;
-        return Err(io::Error::from(io::ErrorKind::InvalidInput));
+        return Ok(ExitCode::FAILURE);
     };
     match image(&rt, path.as_str()) {
         Ok(bytes) => serve_image(&rt, path.as_str(), bytes),
         Err(error) => {
             eprintln!(rt; "coop-lines: cannot read {path}: {error}")?;
-            Err(error)
+            Ok(ExitCode::FAILURE)
         }
     }
 }
@@ -47,13 +50,14 @@ fn image(rt: &HostRuntime, path: &str) -> io::Result<Vec<u8>> {
 }
 
 // Takes the image into use, and answers lines.
-fn serve_image(rt: &HostRuntime, path: &str, mut bytes: Vec<u8>) -> io::Result<()> {
+fn serve_image(rt: &HostRuntime, path: &str, mut bytes: Vec<u8>) -> io::Result<ExitCode> {
     if check(&bytes).is_err() {
         eprintln!(rt; "coop-lines: {path} cannot be taken into use; the program image says why")?;
-        return Err(io::Error::from(io::ErrorKind::InvalidData));
+        return Ok(ExitCode::FAILURE);
     }
     let mut image = Image::open(bytes.as_mut_slice());
-    run(rt, path, &mut image)
+    run(rt, path, &mut image)?;
+    Ok(ExitCode::SUCCESS)
 }
 
 // Answers lines. The image is safe in its file before an accepted line is answered.

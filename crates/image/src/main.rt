@@ -1,4 +1,6 @@
 // For the commissioning bench: whether an image can be taken into use, and what it holds. Nothing is written.
+#![tactic(auto)]
+
 mod flaw;
 mod listing;
 
@@ -8,6 +10,7 @@ use record::Record;
 use slot::{decode, head};
 use slots::{check, count, slot_at};
 use std::io;
+use std::process::ExitCode;
 
 const USAGE: &str = "usage: image FILE
 
@@ -15,28 +18,31 @@ Says whether FILE can be taken into use as a retentive image, and lists the
 site months that it holds, a line for each. It ends with status 1 where the
 image cannot be taken into use. FILE is only read.";
 
-fn main(rt: HostRuntime) -> io::Result<()> {
+fn main(rt: HostRuntime) -> io::Result<ExitCode> {
     let Some(path) = image_file::argument(&rt)? else {
         rt.eprintln(USAGE)?;
-        return Err(io::Error::from(io::ErrorKind::InvalidInput));
+        return Ok(ExitCode::FAILURE);
     };
     match image_file::read(&rt, path.as_str()) {
         Ok(bytes) => judge(&rt, &bytes),
         Err(error) => {
             eprintln!(rt; "image: cannot read {path}: {error}")?;
-            Err(error)
+            Ok(ExitCode::FAILURE)
         }
     }
 }
 
 // What becomes of the image, and what it holds.
-fn judge(rt: &HostRuntime, bytes: &[u8]) -> io::Result<()> {
+fn judge(rt: &HostRuntime, bytes: &[u8]) -> io::Result<ExitCode> {
     match check(bytes) {
-        Ok(()) => list(rt, bytes),
+        Ok(()) => {
+            list(rt, bytes)?;
+            Ok(ExitCode::SUCCESS)
+        }
         Err(flaw) => {
             let reason = Reason(flaw);
             println!(rt; "cannot be taken into use: {reason}")?;
-            Err(io::Error::from(io::ErrorKind::InvalidData))
+            Ok(ExitCode::FAILURE)
         }
     }
 }

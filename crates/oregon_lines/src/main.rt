@@ -1,4 +1,6 @@
 // The tariff block by Oregon's sheets: lines on standard input, one answer line for each on standard output.
+#![tactic(auto)]
+
 use line_buffer::LineBuffer;
 use oregon_card::take_card;
 use std::io;

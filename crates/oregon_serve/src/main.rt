@@ -1,4 +1,6 @@
 // The tariff block by Oregon's sheets: lines on standard input, one answer line for each on standard output.
+#![tactic(auto)]
+
 ghost use Rattle.std.specs.Prelude.{◌≤◌};
 
 use line_reader::{LineReader, write_line};

@@ -6,6 +6,6 @@ use Rattle.coop_lines.proofs.answer_request.Goals as goal
 pub unreachable-requires : goal.unreachable-requires
 unreachable-requires c =
     let long : length c.args.buffer.now ≡ 129 = omega arith in
-    let stop : Some c.in-default.field-0 ≡ None = c.in-default.ensures.replies.refused ∙ ap buffer_test long in
+    let stop : Some c.in_default.field-0 ≡ None = c.in_default.ensures.replies.refused ∙ ap buffer_test long in
     let z : ◌≡◌ {A = ℕ} 0 1 = cc in
     omega arith

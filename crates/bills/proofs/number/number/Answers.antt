@@ -1,4 +1,4 @@
-use Rattle.std.proofs.Common.{◌≡◌, ◌+◌, ◌-◌, ◌*◌, ◌≤◌, true, leb, length, get_or, take, Some, sym, ap, ◌∙◌, subst, arith}
+use Rattle.std.proofs.Common.{◌≡◌, ◌+◌, ◌-◌, ◌*◌, ◌≤◌, true, leb, length, get_or, Some, sym, ap, ◌∙◌, subst, arith}
 use Rattle.std.proofs.lemmas.List.{take_all}
 use Rattle.std.proofs.lemmas.List.Sums.{fold_more}
 use Rattle.std.proofs.lemmas.Bool.{and_left, and_right, eqb-false, lt-leb}
@@ -34,6 +34,6 @@ pub returns : goal.returns
 returns c =
     let text = c.args.text.now in
     let all = take_all c.loop-byte.byte-index text c.loop-byte-test.false in
-    let some : 1 ≤ length text = omega (arith, eqb-false (length text) 0 (sym c.if-is-empty.ensures)) in
+    let some : 1 ≤ length text = omega (arith, eqb-false (length text) 0 (sym c.if-is_empty.ensures)) in
     ap Some (c.loop-byte.invariant.0 ∙ ap value all)
     ∙ sym (whole text some c.if-text-gt10.false (subst (λ cs. all_digits cs ≡ true) all c.loop-byte.invariant.1))
