@@ -2,7 +2,7 @@
 use crate::table::{Tried, check_all};
 use reading::{Entry, SiteMonth};
 use request::Request;
-use std::test::*;
+use std::process::Abort;
 
 // A post or a correction with its whole reading.
 #[derive(Clone, Copy)]
@@ -605,70 +605,68 @@ fn fields(entry: Entry) -> [u32; 10] {
 }
 
 // The line is a post, or a correction where it corrects, of this reading.
-fn check_reading(line: &[u8], corrects: bool, at: SiteMonth, entry: Entry) -> Result<(), Fail> {
+fn check_reading(rt: &impl Abort, line: &[u8], corrects: bool, at: SiteMonth, entry: Entry) {
     let Ok(request) = Request::read(line) else {
-        return Err(Fail::new("refused"));
+        panic!(rt; "refused")
     };
     let (found_corrects, found_at, reading) = match request {
         Request::Post { at, reading } => (false, at, reading.entry()),
         Request::Correct { at, reading } => (true, at, reading.entry()),
-        _ => return Err(Fail::new("another kind")),
+        _ => panic!(rt; "another kind"),
     };
-    assert_eq!(
+    assert_eq!(rt;
         (found_corrects, found_at.site, found_at.month),
         (corrects, at.site, at.month)
     );
-    assert_eq!(fields(reading), fields(entry));
-    Ok(())
+    assert_eq!(rt; fields(reading), fields(entry));
 }
 
 impl Tried for Full {
-    fn passes(&self) -> Result<(), Fail> {
-        check_reading(self.line, self.corrects, self.at, self.entry)
+    fn passes(&self, rt: &impl Abort) {
+        check_reading(rt, self.line, self.corrects, self.at, self.entry);
     }
 }
 
 impl Tried for Load {
-    fn passes(&self) -> Result<(), Fail> {
+    fn passes(&self, rt: &impl Abort) {
         let entry = Entry {
             demand: self.demand,
             load: self.load,
             ..PLAIN
         };
-        check_reading(self.line, false, PLAIN_AT, entry)
+        check_reading(rt, self.line, false, PLAIN_AT, entry);
     }
 }
 
 impl Tried for Named {
-    fn passes(&self) -> Result<(), Fail> {
+    fn passes(&self, rt: &impl Abort) {
         let Ok(request) = Request::read(self.line) else {
-            return Err(Fail::new("refused"));
+            panic!(rt; "refused")
         };
         let (kind, at, meter) = match request {
             Request::Cancel { at, meter } => (2, at, Some(meter)),
             Request::Close { at } => (4, at, None),
             Request::Account { at } => (5, at, None),
-            _ => return Err(Fail::new("another kind")),
+            _ => panic!(rt; "another kind"),
         };
-        assert_eq!(
+        assert_eq!(rt;
             (kind, at.site, at.month, meter),
             (self.kind, self.at.site, self.at.month, self.meter)
         );
-        Ok(())
     }
 }
 
 #[test]
-fn full_readings() -> Result<(), Fail> {
-    check_all(&FULL)
+fn full_readings(rt: HostRuntime) {
+    check_all(&rt, &FULL);
 }
 
 #[test]
-fn load_sizes() -> Result<(), Fail> {
-    check_all(&LOADS)
+fn load_sizes(rt: HostRuntime) {
+    check_all(&rt, &LOADS);
 }
 
 #[test]
-fn without_readings() -> Result<(), Fail> {
-    check_all(&NAMED)
+fn without_readings(rt: HostRuntime) {
+    check_all(&rt, &NAMED);
 }

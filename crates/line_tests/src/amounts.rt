@@ -4,7 +4,7 @@ use crate::refusal::check_refusal;
 use crate::table::{Tried, check_all};
 use answer::{AmountsKind, Answer, read_amounts};
 use reading::{Fault, LINES};
-use std::test::*;
+use std::process::Abort;
 
 // An answer of amounts, and its line.
 #[derive(Clone, Copy)]
@@ -490,78 +490,74 @@ const FIXED: [Line; 26] = [
 const BEFORE: [i32; LINES] = [11, -12, 13, -14, 15, -16, 17, -18, 19, -20, 21, -22, 23];
 
 // The answer's line stands in this buffer, and nothing past the line.
-fn check_line(answer: Answer, line: &[u8], buffer: &mut [u8]) -> Result<(), Fail> {
+fn check_line(rt: &impl Abort, answer: Answer, line: &[u8], buffer: &mut [u8]) {
     match answer.write(buffer) {
         Ok(length) => {
-            assert_eq!(length, line.len());
-            check_written(buffer, line)
+            assert_eq!(rt; length, line.len());
+            check_written(rt, buffer, line)
         }
-        Err(_) => Err(Fail::new("not written")),
+        Err(_) => panic!(rt; "not written"),
     }
 }
 
 impl Tried for Case {
-    fn passes(&self) -> Result<(), Fail> {
+    fn passes(&self, rt: &impl Abort) {
         let answer = Answer::Amounts {
             kind: self.kind,
             amounts: self.amounts,
         };
-        check_line(answer, self.line, &mut [UNTOUCHED; 200])?;
+        check_line(rt, answer, self.line, &mut [UNTOUCHED; 200]);
         let mut amounts = BEFORE;
         match read_amounts(self.line, &mut amounts) {
-            Ok(kind) => {
-                assert_eq!((kind.byte(), amounts), (self.kind.byte(), self.amounts));
-                Ok(())
-            },
-            Err(_) => Err(Fail::new("refused")),
+            Ok(kind) => assert_eq!(rt; (kind.byte(), amounts), (self.kind.byte(), self.amounts)),
+            Err(_) => panic!(rt; "refused"),
         }
     }
 }
 
 // The place of the amounts is as it was.
 impl Tried for Refused {
-    fn passes(&self) -> Result<(), Fail> {
+    fn passes(&self, rt: &impl Abort) {
         let mut amounts = BEFORE;
         match read_amounts(self.line, &mut amounts) {
-            Ok(_) => Err(Fail::new("accepted")),
+            Ok(_) => panic!(rt; "accepted"),
             Err(fault) => {
-                check_refusal(fault, self.refusal)?;
-                assert_eq!(amounts, BEFORE);
-                Ok(())
+                check_refusal(rt, fault, self.refusal);
+                assert_eq!(rt; amounts, BEFORE);
             }
         }
     }
 }
 
 impl Tried for Line {
-    fn passes(&self) -> Result<(), Fail> {
-        check_line(self.answer, self.line, &mut [UNTOUCHED; 128])
+    fn passes(&self, rt: &impl Abort) {
+        check_line(rt, self.answer, self.line, &mut [UNTOUCHED; 128]);
     }
 }
 
 #[test]
-fn written_and_read_back() -> Result<(), Fail> {
-    check_all(&AMOUNTS)
+fn written_and_read_back(rt: HostRuntime) {
+    check_all(&rt, &AMOUNTS);
 }
 
 #[test]
-fn refused_lines() -> Result<(), Fail> {
-    check_all(&UNREAD)
+fn refused_lines(rt: HostRuntime) {
+    check_all(&rt, &UNREAD);
 }
 
 #[test]
-fn fixed_lines() -> Result<(), Fail> {
-    check_all(&FIXED)
+fn fixed_lines(rt: HostRuntime) {
+    check_all(&rt, &FIXED);
 }
 
 #[test]
-fn short_buffer() -> Result<(), Fail> {
+fn short_buffer(rt: HostRuntime) {
     let mut buffer = [UNTOUCHED; 127];
     match Answer::Closed.write(&mut buffer) {
-        Ok(_) => Err(Fail::new("written")),
+        Ok(_) => panic!(rt; "written"),
         Err(fault) => {
-            check_refusal(fault, (1, 1, 0))?;
-            check_written(&buffer, b"")
+            check_refusal(&rt, fault, (1, 1, 0));
+            check_written(&rt, &buffer, b"")
         }
     }
 }

@@ -3,7 +3,7 @@ use crate::buffer::{UNTOUCHED, check_written};
 use crate::refusal::check_refusal;
 use crate::table::{Tried, check_all};
 use oregon_card::take_card;
-use std::test::*;
+use std::process::Abort;
 
 // A line and its answer.
 #[derive(Clone, Copy)]
@@ -250,60 +250,60 @@ const FRAMES: [Case; 23] = [
 ];
 
 // The answer to a line stands in this buffer, and nothing past the answer.
-fn check_answer(case: &Case, buffer: &mut [u8]) -> Result<(), Fail> {
+fn check_answer(rt: &impl Abort, case: &Case, buffer: &mut [u8]) {
     match take_card(case.line, buffer) {
         Ok(reply) => {
             let taken = case.answer.len() == ACCEPTED.len();
-            assert_eq!(
+            assert_eq!(rt;
                 (reply.length, reply.card.is_ok()),
                 (case.answer.len(), taken)
             );
-            check_written(buffer, case.answer)
+            check_written(rt, buffer, case.answer)
         }
-        Err(_) => Err(Fail::new("not written")),
+        Err(_) => panic!(rt; "not written"),
     }
 }
 
 impl Tried for Case {
-    fn passes(&self) -> Result<(), Fail> {
-        check_answer(self, &mut [UNTOUCHED; 200])
+    fn passes(&self, rt: &impl Abort) {
+        check_answer(rt, self, &mut [UNTOUCHED; 200]);
     }
 }
 
 // Number 1 comes back, whatever the line, and the buffer is as it was.
-fn check_short(line: &[u8], buffer: &mut [u8]) -> Result<(), Fail> {
+fn check_short(rt: &impl Abort, line: &[u8], buffer: &mut [u8]) {
     match take_card(line, buffer) {
-        Ok(_) => Err(Fail::new("written")),
+        Ok(_) => panic!(rt; "written"),
         Err(fault) => {
-            check_refusal(fault, (1, 1, 0))?;
-            check_written(buffer, b"")
+            check_refusal(rt, fault, (1, 1, 0));
+            check_written(rt, buffer, b"")
         }
     }
 }
 
 #[test]
-fn accepted_cards() -> Result<(), Fail> {
-    check_all(&TAKEN)
+fn accepted_cards(rt: HostRuntime) {
+    check_all(&rt, &TAKEN);
 }
 
 #[test]
-fn refused_characters() -> Result<(), Fail> {
-    check_all(&CHARACTERS)
+fn refused_characters(rt: HostRuntime) {
+    check_all(&rt, &CHARACTERS);
 }
 
 #[test]
-fn refused_frames() -> Result<(), Fail> {
-    check_all(&FRAMES)
+fn refused_frames(rt: HostRuntime) {
+    check_all(&rt, &FRAMES);
 }
 
 #[test]
-fn shortest_buffer() -> Result<(), Fail> {
-    check_answer(&WORKED, &mut [UNTOUCHED; 128])
+fn shortest_buffer(rt: HostRuntime) {
+    check_answer(&rt, &WORKED, &mut [UNTOUCHED; 128]);
 }
 
 #[test]
-fn short_buffers() -> Result<(), Fail> {
-    check_short(WORKED.line, &mut [UNTOUCHED; 127])?;
-    check_short(WORKED.line, &mut [])?;
-    check_short(b"", &mut [UNTOUCHED; 127])
+fn short_buffers(rt: HostRuntime) {
+    check_short(&rt, WORKED.line, &mut [UNTOUCHED; 127]);
+    check_short(&rt, WORKED.line, &mut []);
+    check_short(&rt, b"", &mut [UNTOUCHED; 127]);
 }

@@ -1,4 +1,6 @@
 // Tests of lines: what is refused and accepted, and what is answered, byte by byte.
+#![tactic(auto)]
+
 #[cfg(test)]
 mod accepted_requests;
 #[cfg(test)]
@@ -7,6 +9,8 @@ mod amounts;
 mod buffer;
 #[cfg(test)]
 mod cards;
+#[cfg(test)]
+mod note;
 #[cfg(test)]
 mod refusal;
 #[cfg(test)]

@@ -1,12 +1,11 @@
 // What a refusal reports.
 use reading::Fault;
-use std::test::*;
+use std::process::Abort;
 
 // The fault has this number, layer and place.
-pub(crate) fn check_refusal(fault: Fault, refusal: (u8, u8, u16)) -> Result<(), Fail> {
-    assert_eq!(
+pub(crate) fn check_refusal(rt: &impl Abort, fault: Fault, refusal: (u8, u8, u16)) {
+    assert_eq!(rt;
         (fault.number(), fault.layer() as u8, fault.place()),
         refusal
     );
-    Ok(())
 }

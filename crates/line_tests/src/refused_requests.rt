@@ -2,7 +2,7 @@
 use crate::refusal::check_refusal;
 use crate::table::{Tried, check_all};
 use request::Request;
-use std::test::*;
+use std::process::Abort;
 
 // A line and its refusal.
 #[derive(Clone, Copy)]
@@ -905,50 +905,50 @@ const ORDER: [Case; 21] = [
 ];
 
 impl Tried for Case {
-    fn passes(&self) -> Result<(), Fail> {
+    fn passes(&self, rt: &impl Abort) {
         match Request::read(self.line) {
-            Ok(_) => Err(Fail::new("accepted")),
-            Err(fault) => check_refusal(fault, self.refusal),
+            Ok(_) => panic!(rt; "accepted"),
+            Err(fault) => check_refusal(rt, fault, self.refusal),
         }
     }
 }
 
 #[test]
-fn wrong_lengths() -> Result<(), Fail> {
-    check_all(&LENGTHS)
+fn wrong_lengths(rt: HostRuntime) {
+    check_all(&rt, &LENGTHS);
 }
 
 #[test]
-fn wrong_digits() -> Result<(), Fail> {
-    check_all(&DIGITS)
+fn wrong_digits(rt: HostRuntime) {
+    check_all(&rt, &DIGITS);
 }
 
 #[test]
-fn wrong_sums() -> Result<(), Fail> {
-    check_all(&SUMS)
+fn wrong_sums(rt: HostRuntime) {
+    check_all(&rt, &SUMS);
 }
 
 #[test]
-fn other_kinds() -> Result<(), Fail> {
-    check_all(&KINDS)
+fn other_kinds(rt: HostRuntime) {
+    check_all(&rt, &KINDS);
 }
 
 #[test]
-fn wrong_payloads() -> Result<(), Fail> {
-    check_all(&PAYLOADS)
+fn wrong_payloads(rt: HostRuntime) {
+    check_all(&rt, &PAYLOADS);
 }
 
 #[test]
-fn above_limits() -> Result<(), Fail> {
-    check_all(&LIMITS)
+fn above_limits(rt: HostRuntime) {
+    check_all(&rt, &LIMITS);
 }
 
 #[test]
-fn above_totals() -> Result<(), Fail> {
-    check_all(&EXCESSES)
+fn above_totals(rt: HostRuntime) {
+    check_all(&rt, &EXCESSES);
 }
 
 #[test]
-fn first_that_fits() -> Result<(), Fail> {
-    check_all(&ORDER)
+fn first_that_fits(rt: HostRuntime) {
+    check_all(&rt, &ORDER);
 }

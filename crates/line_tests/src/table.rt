@@ -1,15 +1,15 @@
 // Tables of cases.
-use std::test::*;
+use crate::note::Noted;
+use std::process::Abort;
 
 // A case of a table.
 pub(crate) trait Tried {
-    fn passes(&self) -> Result<(), Fail>;
+    fn passes(&self, rt: &impl Abort);
 }
 
 // Every case of a table passes. A failure notes the case, counted from 0.
-pub(crate) fn check_all<C: Tried>(cases: &[C]) -> Result<(), Fail> {
+pub(crate) fn check_all<C: Tried>(rt: &impl Abort, cases: &[C]) {
     for (i, case) in cases.iter().enumerate() {
-        case.passes().note(i)?;
+        case.passes(&Noted(rt, i));
     }
-    Ok(())
 }

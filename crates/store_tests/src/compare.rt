@@ -3,20 +3,18 @@ use reading::{Entry, Fault};
 use record::Row;
 use slots::Flaw;
 use std::process::Abort;
-use std::test::*;
 
 // The rows are the same, in their unused entries too. A failure notes the entry, counted from 0.
-pub(crate) fn check_row(found: &Row, expected: &Row) -> Result<(), Fail> {
-    assert_eq!(heading(found), heading(expected));
+pub(crate) fn check_row(rt: &impl Abort, found: &Row, expected: &Row) {
+    assert_eq!(rt; heading(found), heading(expected));
     for (i, (a, b)) in found
         .entries
         .iter()
         .zip(expected.entries.iter())
         .enumerate()
     {
-        assert_eq!(fields(a), fields(b), "{}", i);
+        assert_eq!(rt; fields(a), fields(b), "entry {i}");
     }
-    Ok(())
 }
 
 pub(crate) fn same_row(a: &Row, b: &Row) -> bool {
@@ -50,12 +48,11 @@ fn fields(entry: &Entry) -> [u32; 10] {
 }
 
 // The fault has this number, layer and place.
-pub(crate) fn check_refusal(fault: Fault, refusal: (u8, u8, u16)) -> Result<(), Fail> {
-    assert_eq!(
+pub(crate) fn check_refusal(rt: &impl Abort, fault: Fault, refusal: (u8, u8, u16)) {
+    assert_eq!(rt;
         (fault.number(), fault.layer() as u8, fault.place()),
         refusal
     );
-    Ok(())
 }
 
 // What an inspection finds: its name and the slots that it names, which are 0 where it names none.
@@ -71,10 +68,9 @@ pub(crate) fn told(inspected: Result<(), Flaw>) -> (&'static str, usize, usize) 
 }
 
 // The bytes are the same. A failure notes the byte, counted from 0.
-pub(crate) fn check_bytes(rt: &impl Abort, found: &[u8], expected: &[u8]) -> Result<(), Fail> {
+pub(crate) fn check_bytes(rt: &impl Abort, found: &[u8], expected: &[u8]) {
     assert_eq!(rt; found.len(), expected.len());
     for (i, (a, b)) in found.iter().zip(expected.iter()).enumerate() {
-        assert_eq!(rt; *a, *b, "{}", i);
+        assert_eq!(rt; *a, *b, "byte {i}");
     }
-    Ok(())
 }

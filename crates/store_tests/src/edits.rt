@@ -4,7 +4,7 @@ use crate::samples::{AT, METERS, entry_of, reading_of, record_with, row_with};
 use crate::table::{Tried, check_all};
 use reading::{Entry, Fault};
 use record::{Record, Row, State};
-use std::test::*;
+use std::process::Abort;
 
 // Numbers, layers and places.
 const STANDING: (u8, u8, u16) = (12, 5, 9);
@@ -252,39 +252,39 @@ fn correction(meter: u16) -> Entry {
     }
 }
 
-fn check_fault(res: Result<Record, Fault>, refusal: (u8, u8, u16)) -> Result<(), Fail> {
-    match res {
-        Ok(_) => Err(Fail::new("accepted")),
-        Err(fault) => check_refusal(fault, refusal),
+fn check_fault(rt: &impl Abort, edited: Result<Record, Fault>, refusal: (u8, u8, u16)) {
+    match edited {
+        Ok(_) => panic!(rt; "accepted"),
+        Err(fault) => check_refusal(rt, fault, refusal),
     }
 }
 
-fn check_edited(res: Result<Record, Fault>, expected: &Row) -> Result<(), Fail> {
-    match res {
-        Ok(kept) => check_row(kept.row(), expected),
-        Err(_) => Err(Fail::new("refused")),
+fn check_edited(rt: &impl Abort, edited: Result<Record, Fault>, expected: &Row) {
+    match edited {
+        Ok(kept) => check_row(rt, kept.row(), expected),
+        Err(_) => panic!(rt; "refused"),
     }
 }
 
 impl Tried for Added {
-    fn passes(&self) -> Result<(), Fail> {
+    fn passes(&self, rt: &impl Abort) {
         let step = self.0;
-        let reading = reading_of(entry_of(step.meter))?;
-        let kept = record_with(AT, step.before)?;
-        check_edited(kept.with(&reading), &row_with(AT, step.after))
+        let reading = reading_of(rt, entry_of(step.meter));
+        let kept = record_with(rt, AT, step.before);
+        check_edited(rt, kept.with(&reading), &row_with(AT, step.after));
     }
 }
 
 impl Tried for NotAdded {
-    fn passes(&self) -> Result<(), Fail> {
-        let reading = reading_of(correction(self.meter))?;
-        let kept = record_with(AT, self.meters)?;
-        check_fault(kept.with(&reading), self.refusal)
+    fn passes(&self, rt: &impl Abort) {
+        let reading = reading_of(rt, correction(self.meter));
+        let kept = record_with(rt, AT, self.meters);
+        check_fault(rt, kept.with(&reading), self.refusal);
     }
 }
 
 impl Tried for Corrected {
-    fn passes(&self) -> Result<(), Fail> {
+    fn passes(&self, rt: &impl Abort) {
         let corrected = correction(self.meter);
         let mut expected = row_with(AT, self.meters);
         for (entry, meter) in expected.entries.iter_mut().zip(self.meters.iter()) {
@@ -292,123 +292,117 @@ impl Tried for Corrected {
                 *entry = corrected;
             }
         }
-        let kept = record_with(AT, self.meters)?;
-        check_edited(kept.replacing(&reading_of(corrected)?), &expected)
+        let kept = record_with(rt, AT, self.meters);
+        check_edited(rt, kept.replacing(&reading_of(rt, corrected)), &expected);
     }
 }
 
 impl Tried for Missing {
-    fn passes(&self) -> Result<(), Fail> {
-        let kept = record_with(AT, self.meters)?;
-        let reading = reading_of(correction(self.meter))?;
-        check_fault(kept.replacing(&reading), NO_METER)?;
+    fn passes(&self, rt: &impl Abort) {
+        let kept = record_with(rt, AT, self.meters);
+        let reading = reading_of(rt, correction(self.meter));
+        check_fault(rt, kept.replacing(&reading), NO_METER);
         match kept.without(self.meter) {
-            Ok(_) => Err(Fail::new("accepted")),
-            Err(fault) => check_refusal(fault, NO_METER),
+            Ok(_) => panic!(rt; "accepted"),
+            Err(fault) => check_refusal(rt, fault, NO_METER),
         }
     }
 }
 
 impl Tried for TakenOut {
-    fn passes(&self) -> Result<(), Fail> {
+    fn passes(&self, rt: &impl Abort) {
         let step = self.0;
-        let kept = record_with(AT, step.before)?;
+        let kept = record_with(rt, AT, step.before);
         let Ok(left) = kept.without(step.meter) else {
-            return Err(Fail::new("refused"));
+            panic!(rt; "refused")
         };
         match left {
-            Some(left) => check_row(left.row(), &row_with(AT, step.after)),
-            None => Err(Fail::new("nothing left")),
+            Some(left) => check_row(rt, left.row(), &row_with(AT, step.after)),
+            None => panic!(rt; "nothing left"),
         }
     }
 }
 
 #[test]
-fn readings_added() -> Result<(), Fail> {
-    check_all(&ADDED)
+fn readings_added(rt: HostRuntime) {
+    check_all(&rt, &ADDED);
 }
 
 #[test]
-fn readings_not_added() -> Result<(), Fail> {
-    check_all(&NOT_ADDED)
+fn readings_not_added(rt: HostRuntime) {
+    check_all(&rt, &NOT_ADDED);
 }
 
 #[test]
-fn readings_corrected() -> Result<(), Fail> {
-    check_all(&CORRECTED)
+fn readings_corrected(rt: HostRuntime) {
+    check_all(&rt, &CORRECTED);
 }
 
 #[test]
-fn missing_meters() -> Result<(), Fail> {
-    check_all(&MISSING)
+fn missing_meters(rt: HostRuntime) {
+    check_all(&rt, &MISSING);
 }
 
 #[test]
-fn readings_taken_out() -> Result<(), Fail> {
-    check_all(&TAKEN_OUT)
+fn readings_taken_out(rt: HostRuntime) {
+    check_all(&rt, &TAKEN_OUT);
 }
 
 #[test]
-fn last_reading_taken_out(rt: HostRuntime) -> Result<(), Fail> {
-    match record_with(AT, &[4])?.without(4) {
-        Ok(left) => {
-            assert!(rt; left.is_none());
-            Ok(())
-        },
-        Err(_) => Err(Fail::new("refused")),
+fn last_reading_taken_out(rt: HostRuntime) {
+    match record_with(&rt, AT, &[4]).without(4) {
+        Ok(left) => assert!(rt; left.is_none()),
+        Err(_) => panic!(rt; "refused"),
     }
 }
 
 #[test]
-fn new_of_one_reading(rt: HostRuntime) -> Result<(), Fail> {
-    let kept = Record::new(AT, &reading_of(entry_of(9))?);
+fn new_of_one_reading(rt: HostRuntime) {
+    let kept = Record::new(AT, &reading_of(&rt, entry_of(9)));
     assert!(rt; !kept.is_closed());
-    check_row(kept.row(), &row_with(AT, &[9]))
+    check_row(&rt, kept.row(), &row_with(AT, &[9]));
 }
 
 #[test]
-fn built_up_backward() -> Result<(), Fail> {
-    let mut kept = Record::new(AT, &reading_of(entry_of(65_535))?);
+fn built_up_backward(rt: HostRuntime) {
+    let mut kept = Record::new(AT, &reading_of(&rt, entry_of(65_535)));
     for meter in METERS.iter().rev().skip(1) {
-        let Ok(next) = kept.with(&reading_of(entry_of(*meter))?) else {
-            return Err(Fail::new("refused"));
+        let Ok(next) = kept.with(&reading_of(&rt, entry_of(*meter))) else {
+            panic!(rt; "refused")
         };
         kept = next;
     }
-    check_row(kept.row(), &row_with(AT, &METERS))
+    check_row(&rt, kept.row(), &row_with(AT, &METERS));
 }
 
 #[test]
-fn closing(rt: HostRuntime) -> Result<(), Fail> {
+fn closing(rt: HostRuntime) {
     let mut expected = row_with(AT, &[2, 4]);
     expected.state = State::Closed;
-    let closed = record_with(AT, &[2, 4])?.closed();
+    let closed = record_with(&rt, AT, &[2, 4]).closed();
     assert!(rt; closed.is_closed());
-    check_row(closed.row(), &expected)?;
-    check_row(closed.closed().row(), &expected)
+    check_row(&rt, closed.row(), &expected);
+    check_row(&rt, closed.closed().row(), &expected);
 }
 
 #[test]
-fn closed_stays_closed(rt: HostRuntime) -> Result<(), Fail> {
-    let closed = record_with(AT, &[2, 4])?.closed();
+fn closed_stays_closed(rt: HostRuntime) {
+    let closed = record_with(&rt, AT, &[2, 4]).closed();
     let mut expected = row_with(AT, &[2, 3, 4]);
     expected.state = State::Closed;
-    check_edited(closed.with(&reading_of(entry_of(3))?), &expected)?;
+    check_edited(&rt, closed.with(&reading_of(&rt, entry_of(3))), &expected);
     let Ok(left) = closed.without(2) else {
-        return Err(Fail::new("refused"));
+        panic!(rt; "refused")
     };
     match left {
-        Some(left) => {
-            assert!(rt; left.is_closed());
-            Ok(())
-        },
-        None => Err(Fail::new("nothing left")),
+        Some(left) => assert!(rt; left.is_closed()),
+        None => panic!(rt; "nothing left"),
     }
 }
 
 #[test]
-fn parts(rt: HostRuntime) -> Result<(), Fail> {
-    let kept = record_with(AT, &[2, 4, 6])?;
+fn parts(rt: HostRuntime) {
+    let kept = record_with(&rt, AT, &[2, 4, 6]);
     assert_eq!(rt; (kept.at().site, kept.at().month), (7, 252));
     let readings = kept.readings();
     assert!(rt; readings.len() == 3);
@@ -416,5 +410,4 @@ fn parts(rt: HostRuntime) -> Result<(), Fail> {
         [readings[0].meter, readings[1].meter, readings[2].meter],
         [2, 4, 6]
     );
-    Ok(())
 }

@@ -6,6 +6,7 @@ use crate::table::{Tried, check_all};
 use reading::SiteMonth;
 use slot::{SLOT, encode};
 use std::alloc::Global;
+use std::process::Abort;
 use std::test::*;
 
 const THREE: usize = 3 * SLOT;
@@ -387,43 +388,41 @@ const SITES: [Sites; 11] = [
 ];
 
 // A slot is refused as the only one, and as the last of three behind a record and an empty slot.
-fn check_unlawful(slot: &[u8; SLOT]) -> Result<(), Fail> {
-    assert_eq!(told(slots::check(slot)), ("unlawful", 0, 0));
-    let good = encode(&record_with(ELSEWHERE, &[1])?);
+fn check_unlawful(rt: &impl Abort, slot: &[u8; SLOT]) {
+    assert_eq!(rt; told(slots::check(slot)), ("unlawful", 0, 0));
+    let good = encode(&record_with(rt, ELSEWHERE, &[1]));
     let mut bytes = [0; THREE];
     put(&mut bytes, 0, &good);
     put(&mut bytes, 2 * SLOT, slot);
-    assert_eq!(told(slots::check(&bytes)), ("unlawful", 2, 0));
-    Ok(())
+    assert_eq!(rt; told(slots::check(&bytes)), ("unlawful", 2, 0));
 }
 
 impl Tried for OverKnown {
-    fn passes(&self) -> Result<(), Fail> {
+    fn passes(&self, rt: &impl Abort) {
         let mut slot = known_slot();
         put(&mut slot, self.0.from, self.0.bytes);
-        check_unlawful(&slot)
+        check_unlawful(rt, &slot);
     }
 }
 
 impl Tried for OverEmpty {
-    fn passes(&self) -> Result<(), Fail> {
+    fn passes(&self, rt: &impl Abort) {
         let mut slot = [0; SLOT];
         put(&mut slot, self.0.from, self.0.bytes);
-        check_unlawful(&slot)
+        check_unlawful(rt, &slot);
     }
 }
 
 impl Tried for Sites {
-    fn passes(&self) -> Result<(), Fail> {
+    fn passes(&self, rt: &impl Abort) {
         let mut bytes = [0; FIVE];
-        put_sites(&mut bytes, &self.sites)?;
-        assert_eq!(told(slots::check(&bytes)), self.told);
-        Ok(())
+        put_sites(rt, &mut bytes, &self.sites);
+        assert_eq!(rt; told(slots::check(&bytes)), self.told);
     }
 }
 
 // Writes the records of the sites in one month to the slots, and leaves those of site 0.
-fn put_sites(bytes: &mut [u8], sites: &[u32]) -> Result<(), Fail> {
+fn put_sites(rt: &impl Abort, bytes: &mut [u8], sites: &[u32]) {
     for (i, site) in sites.iter().enumerate() {
         if *site != 0 {
             let at = SiteMonth {
@@ -433,11 +432,10 @@ fn put_sites(bytes: &mut [u8], sites: &[u32]) -> Result<(), Fail> {
             put(
                 bytes,
                 SLOT.wrapping_mul(i),
-                &encode(&record_with(at, &[5])?),
+                &encode(&record_with(rt, at, &[5])),
             );
         }
     }
-    Ok(())
 }
 
 // What is told of so many zero bytes.
@@ -452,61 +450,61 @@ fn sizes(rt: HostRuntime) -> Result<(), Fail> {
         assert_eq!(rt;
             told_of_zeros(rt.alloc(), size.bytes)?,
             (size.told, 0, 0),
-            "{}",
-            i
+            "size {i}"
         );
     }
     Ok(())
 }
 
 #[test]
-fn unlawful_slots() -> Result<(), Fail> {
-    check_all(&UNLAWFUL)
+fn unlawful_slots(rt: HostRuntime) {
+    check_all(&rt, &UNLAWFUL);
 }
 
 #[test]
-fn not_empty_slots() -> Result<(), Fail> {
-    check_all(&NOT_EMPTY)
+fn not_empty_slots(rt: HostRuntime) {
+    check_all(&rt, &NOT_EMPTY);
 }
 
 #[test]
-fn site_months() -> Result<(), Fail> {
-    check_all(&SITES)
+fn site_months(rt: HostRuntime) {
+    check_all(&rt, &SITES);
 }
 
 #[test]
-fn lawful_slots(rt: HostRuntime) -> Result<(), Fail> {
+fn lawful_slots(rt: HostRuntime) {
     assert_eq!(rt; told(slots::check(&known_slot())), ("usable", 0, 0));
     assert_eq!(rt; told(slots::check(&known_closed_slot())), ("usable", 0, 0));
-    Ok(())
 }
 
 // The state and the readings make no other site month.
 #[test]
-fn twice_open_and_closed(rt: HostRuntime) -> Result<(), Fail> {
+fn twice_open_and_closed(rt: HostRuntime) {
     let mut bytes = [0; THREE];
     put(&mut bytes, 0, &known_closed_slot());
     put(&mut bytes, SLOT, &known_slot());
-    put(&mut bytes, 2 * SLOT, &encode(&record_with(KNOWN_AT, &[5])?));
+    put(
+        &mut bytes,
+        2 * SLOT,
+        &encode(&record_with(&rt, KNOWN_AT, &[5])),
+    );
     assert_eq!(rt; told(slots::check(&bytes)), ("twice", 0, 1));
-    Ok(())
 }
 
 // A record of site 0 in month 0 is not the site month of an empty slot.
 #[test]
-fn site_month_of_zeros(rt: HostRuntime) -> Result<(), Fail> {
+fn site_month_of_zeros(rt: HostRuntime) {
     let at = SiteMonth { site: 0, month: 0 };
     let mut bytes = [0; THREE];
-    put(&mut bytes, SLOT, &encode(&record_with(at, &[5])?));
+    put(&mut bytes, SLOT, &encode(&record_with(&rt, at, &[5])));
     assert_eq!(rt; told(slots::check(&bytes)), ("usable", 0, 0));
-    put(&mut bytes, 2 * SLOT, &encode(&record_with(at, &[6])?));
+    put(&mut bytes, 2 * SLOT, &encode(&record_with(&rt, at, &[6])));
     assert_eq!(rt; told(slots::check(&bytes)), ("twice", 1, 2));
-    Ok(())
 }
 
 // The size comes first, then the slots, and then the site months.
 #[test]
-fn first_flaw(rt: HostRuntime) -> Result<(), Fail> {
+fn first_flaw(rt: HostRuntime) {
     let mut bytes = [0; THREE];
     put(&mut bytes, 0, &known_slot());
     put(&mut bytes, SLOT, &known_slot());
@@ -515,14 +513,13 @@ fn first_flaw(rt: HostRuntime) -> Result<(), Fail> {
     assert_eq!(rt; told(slots::check(&bytes[0..1_271])), ("part slot", 0, 0));
     put(&mut bytes, SLOT, b"\x03");
     assert_eq!(rt; told(slots::check(&bytes)), ("unlawful", 1, 0));
-    Ok(())
 }
 
 // The refusal that every flaw comes to.
 #[test]
-fn faults_of_flaws() -> Result<(), Fail> {
+fn faults_of_flaws(rt: HostRuntime) {
     match slots::check(&[]) {
-        Ok(()) => Err(Fail::new("usable")),
-        Err(flaw) => check_refusal(flaw.fault(), (16, 6, 0)),
+        Ok(()) => panic!(rt; "usable"),
+        Err(flaw) => check_refusal(&rt, flaw.fault(), (16, 6, 0)),
     }
 }

@@ -3,7 +3,7 @@ use crate::samples::{record_of, row_of};
 use reading::{Entry, SiteMonth};
 use record::Record;
 use slot::SLOT;
-use std::test::*;
+use std::process::Abort;
 
 pub(crate) const KNOWN_AT: SiteMonth = SiteMonth {
     site: 1_364_349_780,
@@ -55,8 +55,8 @@ pub(crate) fn put(bytes: &mut [u8], from: usize, new: &[u8]) {
 }
 
 // The record, open.
-pub(crate) fn known_record() -> Result<Record, Fail> {
-    record_of(row_of(KNOWN_AT, &[FIRST, SECOND]))
+pub(crate) fn known_record(rt: &impl Abort) -> Record {
+    record_of(rt, row_of(KNOWN_AT, &[FIRST, SECOND]))
 }
 
 // Its slot: the header, two entries from bytes 8 and 34 on, and zeros from byte 60 on.

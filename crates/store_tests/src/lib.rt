@@ -1,4 +1,6 @@
 // Tests of records and of where they are kept: in rows, and in the slots of an image.
+#![tactic(auto)]
+
 #[cfg(test)]
 mod both;
 #[cfg(test)]
@@ -11,6 +13,8 @@ mod flaws;
 mod images;
 #[cfg(test)]
 mod known;
+#[cfg(test)]
+mod note;
 #[cfg(test)]
 mod records;
 #[cfg(test)]

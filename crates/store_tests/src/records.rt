@@ -4,7 +4,7 @@ use crate::samples::{AT, METERS, entry_of, row_of, row_with};
 use crate::table::{Tried, check_all};
 use reading::{Entry, SiteMonth};
 use record::{BLANK, Record, Row, State, VACANT};
-use std::test::*;
+use std::process::Abort;
 
 // A reading, and whether it keeps its limits.
 #[derive(Clone, Copy)]
@@ -348,96 +348,93 @@ const HEADINGS: [Heading; 11] = [
 ];
 
 // The row is a record of just that row, or no record.
-fn check_lawful(row: &Row, lawful: bool) -> Result<(), Fail> {
+fn check_lawful(rt: &impl Abort, row: &Row, lawful: bool) {
     match Record::check(*row) {
         Some(kept) => {
-            assert!(lawful);
-            check_row(kept.row(), row)
+            assert!(rt; lawful);
+            check_row(rt, kept.row(), row);
         }
-        None => {
-            assert!(!lawful);
-            Ok(())
-        },
+        None => assert!(rt; !lawful),
     }
 }
 
 impl Tried for Limit {
     // Alone, and as the last of three.
-    fn passes(&self) -> Result<(), Fail> {
-        check_lawful(&row_of(AT, &[self.entry]), self.lawful)?;
+    fn passes(&self, rt: &impl Abort) {
+        check_lawful(rt, &row_of(AT, &[self.entry]), self.lawful);
         let entries = [entry_of(1), entry_of(2), self.entry];
-        check_lawful(&row_of(AT, &entries), self.lawful)
+        check_lawful(rt, &row_of(AT, &entries), self.lawful);
     }
 }
 
 impl Tried for Order {
-    fn passes(&self) -> Result<(), Fail> {
-        check_lawful(&row_with(AT, self.meters), self.lawful)
+    fn passes(&self, rt: &impl Abort) {
+        check_lawful(rt, &row_with(AT, self.meters), self.lawful);
     }
 }
 
 impl Tried for Unused {
     // Behind the only reading, and in the last place.
-    fn passes(&self) -> Result<(), Fail> {
+    fn passes(&self, rt: &impl Abort) {
         let mut row = row_with(AT, &[4]);
         row.entries[1] = self.entry;
-        check_lawful(&row, false)?;
+        check_lawful(rt, &row, false);
         row.entries[1] = BLANK;
-        check_lawful(&row, true)?;
+        check_lawful(rt, &row, true);
         row.entries[15] = self.entry;
-        check_lawful(&row, false)
+        check_lawful(rt, &row, false);
     }
 }
 
 impl Tried for Heading {
-    fn passes(&self) -> Result<(), Fail> {
+    fn passes(&self, rt: &impl Abort) {
         let mut row = row_with(AT, &[1, 2, 3]);
         row.state = self.state;
         row.at.month = self.month;
         row.count = self.count;
-        check_lawful(&row, self.lawful)
+        check_lawful(rt, &row, self.lawful);
     }
 }
 
 #[test]
-fn limits_of_readings() -> Result<(), Fail> {
-    check_all(&LIMITS)
+fn limits_of_readings(rt: HostRuntime) {
+    check_all(&rt, &LIMITS);
 }
 
 #[test]
-fn orders_of_meters() -> Result<(), Fail> {
-    check_all(&ORDERS)
+fn orders_of_meters(rt: HostRuntime) {
+    check_all(&rt, &ORDERS);
 }
 
 #[test]
-fn unused_entries() -> Result<(), Fail> {
-    check_all(&UNUSED)
+fn unused_entries(rt: HostRuntime) {
+    check_all(&rt, &UNUSED);
 }
 
 #[test]
-fn headings() -> Result<(), Fail> {
-    check_all(&HEADINGS)
+fn headings(rt: HostRuntime) {
+    check_all(&rt, &HEADINGS);
 }
 
 #[test]
-fn seventeen_of_sixteen() -> Result<(), Fail> {
+fn seventeen_of_sixteen(rt: HostRuntime) {
     let mut row = row_with(AT, &METERS);
-    check_lawful(&row, true)?;
+    check_lawful(&rt, &row, true);
     row.count = 17;
-    check_lawful(&row, false)
+    check_lawful(&rt, &row, false);
 }
 
 #[test]
-fn no_reading() -> Result<(), Fail> {
-    check_lawful(&VACANT, false)?;
-    check_lawful(&row_with(AT, &[]), false)
+fn no_reading(rt: HostRuntime) {
+    check_lawful(&rt, &VACANT, false);
+    check_lawful(&rt, &row_with(AT, &[]), false);
 }
 
 #[test]
-fn highest_site_month() -> Result<(), Fail> {
+fn highest_site_month(rt: HostRuntime) {
     let at = SiteMonth {
         site: u32::MAX,
         month: 2_399,
     };
-    check_lawful(&row_with(at, &[65_535]), true)
+    check_lawful(&rt, &row_with(at, &[65_535]), true);
 }

@@ -1,5 +1,6 @@
 // Rows as a store: which can be taken into use, and what is written to them.
 use crate::compare::{check_refusal, check_row, same_row};
+use crate::note::Noted;
 use crate::samples::record_with;
 use reading::{Entry, SiteMonth};
 use record::{Record, Row, State, VACANT};
@@ -73,115 +74,110 @@ const JUNK: Row = Row {
 };
 
 // The record of a site in one month.
-fn sited(site: u32) -> Result<Record, Fail> {
-    record_with(SiteMonth { site, month: 3 }, &[5, 6])
+fn sited(rt: &impl Abort, site: u32) -> Record {
+    record_with(rt, SiteMonth { site, month: 3 }, &[5, 6])
 }
 
 // Three rows in which the records of these sites were kept one after the other, as far as there was room.
-fn rows_with(sites: &[u32]) -> Result<[Row; 3], Fail> {
+fn rows_with(rt: &impl Abort, sites: &[u32]) -> [Row; 3] {
     let mut rows = [JUNK; 3];
-    keep_all(&mut Rows::open(&mut rows), sites)?;
-    Ok(rows)
+    keep_all(rt, &mut Rows::open(&mut rows), sites);
+    rows
 }
 
-fn keep_all<S: Store>(store: &mut S, sites: &[u32]) -> Result<(), Fail> {
+fn keep_all<S: Store>(rt: &impl Abort, store: &mut S, sites: &[u32]) {
     for site in sites.iter() {
-        let _ = store.keep(&sited(*site)?);
+        let _ = store.keep(&sited(rt, *site));
     }
-    Ok(())
 }
 
 // One row differs, and it has become this one.
-fn check_one(rt: &impl Abort, before: &[Row; 3], after: &[Row; 3], row: &Row) -> Result<(), Fail> {
+fn check_one(rt: &impl Abort, before: &[Row; 3], after: &[Row; 3], row: &Row) {
     let mut differing = 0u8;
     for (a, b) in before.iter().zip(after.iter()) {
         if !same_row(a, b) {
             differing = differing.saturating_add(1);
-            check_row(b, row)?;
+            check_row(rt, b, row);
         }
     }
     assert_eq!(rt; differing, 1);
-    Ok(())
 }
 
-fn check_same(before: &[Row; 3], after: &[Row; 3]) -> Result<(), Fail> {
+fn check_same(rt: &impl Abort, before: &[Row; 3], after: &[Row; 3]) {
     for (a, b) in before.iter().zip(after.iter()) {
-        check_row(b, a)?;
+        check_row(rt, b, a);
     }
-    Ok(())
 }
 
 fn check_count(rt: &impl Abort, heap: Global, count: Count) -> Result<(), Fail> {
     let rows = vec![in heap; JUNK; count.rows]?;
     match Rows::check(&rows) {
-        Ok(()) => {
-            assert!(rt; count.usable);
-            Ok(())
-        },
+        Ok(()) => assert!(rt; count.usable),
         Err(fault) => {
             assert!(rt; !count.usable);
-            check_refusal(fault, (16, 6, 0))
+            check_refusal(rt, fault, (16, 6, 0));
         }
-    }
-}
-
-#[test]
-fn counts(rt: HostRuntime) -> Result<(), Fail> {
-    for (i, count) in COUNTS.iter().enumerate() {
-        check_count(&rt, rt.alloc(), *count).note(i)?;
     }
     Ok(())
 }
 
 #[test]
-fn opening_empties(rt: HostRuntime) -> Result<(), Fail> {
+fn counts(rt: HostRuntime) -> Result<(), Fail> {
+    for (i, count) in COUNTS.iter().enumerate() {
+        check_count(&Noted(&rt, i), rt.alloc(), *count)?;
+    }
+    Ok(())
+}
+
+#[test]
+fn opening_empties(rt: HostRuntime) {
     let mut rows = [JUNK; 3];
     let store = Rows::open(&mut rows);
     assert_eq!(rt; store.capacity(), 3);
     assert!(rt; !store.find(JUNK.at));
     drop(store);
-    check_same(&[VACANT; 3], &rows)
+    check_same(&rt, &[VACANT; 3], &rows);
 }
 
 #[test]
-fn keeping_writes_one_row(rt: HostRuntime) -> Result<(), Fail> {
-    let none = rows_with(&[])?;
-    let one = rows_with(&[1])?;
-    let two = rows_with(&[1, 2])?;
-    let three = rows_with(&[1, 2, 3])?;
-    check_one(&rt, &none, &one, sited(1)?.row())?;
-    check_one(&rt, &one, &two, sited(2)?.row())?;
-    check_one(&rt, &two, &three, sited(3)?.row())
+fn keeping_writes_one_row(rt: HostRuntime) {
+    let none = rows_with(&rt, &[]);
+    let one = rows_with(&rt, &[1]);
+    let two = rows_with(&rt, &[1, 2]);
+    let three = rows_with(&rt, &[1, 2, 3]);
+    check_one(&rt, &none, &one, sited(&rt, 1).row());
+    check_one(&rt, &one, &two, sited(&rt, 2).row());
+    check_one(&rt, &two, &three, sited(&rt, 3).row());
 }
 
 #[test]
-fn keeping_again_writes_its_own_row(rt: HostRuntime) -> Result<(), Fail> {
-    let full = rows_with(&[1, 2, 3])?;
-    check_same(&full, &rows_with(&[1, 2, 3, 2, 1])?)?;
+fn keeping_again_writes_its_own_row(rt: HostRuntime) {
+    let full = rows_with(&rt, &[1, 2, 3]);
+    check_same(&rt, &full, &rows_with(&rt, &[1, 2, 3, 2, 1]));
     let mut rows = [VACANT; 3];
-    let closed = sited(2)?.closed();
+    let closed = sited(&rt, 2).closed();
     let mut store = Rows::open(&mut rows);
-    keep_all(&mut store, &[1, 2, 3])?;
+    keep_all(&rt, &mut store, &[1, 2, 3]);
     assert!(rt; store.keep(&closed).is_ok());
     drop(store);
-    check_one(&rt, &full, &rows, closed.row())
+    check_one(&rt, &full, &rows, closed.row());
 }
 
 #[test]
-fn refusing_writes_nothing() -> Result<(), Fail> {
-    let full = rows_with(&[1, 2, 3])?;
-    check_same(&full, &rows_with(&[1, 2, 3, 4])?)
+fn refusing_writes_nothing(rt: HostRuntime) {
+    let full = rows_with(&rt, &[1, 2, 3]);
+    check_same(&rt, &full, &rows_with(&rt, &[1, 2, 3, 4]));
 }
 
 #[test]
-fn removing_empties_one_row(rt: HostRuntime) -> Result<(), Fail> {
-    let full = rows_with(&[1, 2, 3])?;
+fn removing_empties_one_row(rt: HostRuntime) {
+    let full = rows_with(&rt, &[1, 2, 3]);
     let mut rows = [VACANT; 3];
     let mut store = Rows::open(&mut rows);
-    keep_all(&mut store, &[1, 2, 3])?;
-    assert!(rt; store.remove(sited(2)?.at()));
-    assert!(rt; !store.remove(sited(2)?.at()));
-    assert!(rt; !store.remove(sited(4)?.at()));
+    keep_all(&rt, &mut store, &[1, 2, 3]);
+    assert!(rt; store.remove(sited(&rt, 2).at()));
+    assert!(rt; !store.remove(sited(&rt, 2).at()));
+    assert!(rt; !store.remove(sited(&rt, 4).at()));
     drop(store);
-    check_one(&rt, &full, &rows, &VACANT)
+    check_one(&rt, &full, &rows, &VACANT);
 }

@@ -1,7 +1,7 @@
 // Readings, rows and records to test with.
 use reading::{Entry, Reading, SiteMonth};
 use record::{Record, Row, State, VACANT};
-use std::test::*;
+use std::process::Abort;
 
 pub(crate) const AT: SiteMonth = SiteMonth {
     site: 7,
@@ -29,10 +29,10 @@ pub(crate) fn entry_of(meter: u16) -> Entry {
     }
 }
 
-pub(crate) fn reading_of(entry: Entry) -> Result<Reading, Fail> {
+pub(crate) fn reading_of(rt: &impl Abort, entry: Entry) -> Reading {
     match Reading::check(entry) {
-        Some(reading) => Ok(reading),
-        None => Err(Fail::new("no reading")),
+        Some(reading) => reading,
+        None => panic!(rt; "no reading"),
     }
 }
 
@@ -64,14 +64,14 @@ pub(crate) fn row_with(at: SiteMonth, meters: &[u16]) -> Row {
     row
 }
 
-pub(crate) fn record_of(row: Row) -> Result<Record, Fail> {
+pub(crate) fn record_of(rt: &impl Abort, row: Row) -> Record {
     match Record::check(row) {
-        Some(kept) => Ok(kept),
-        None => Err(Fail::new("no record")),
+        Some(kept) => kept,
+        None => panic!(rt; "no record"),
     }
 }
 
 // An open record of a site month with a reading of each meter.
-pub(crate) fn record_with(at: SiteMonth, meters: &[u16]) -> Result<Record, Fail> {
-    record_of(row_with(at, meters))
+pub(crate) fn record_with(rt: &impl Abort, at: SiteMonth, meters: &[u16]) -> Record {
+    record_of(rt, row_with(at, meters))
 }

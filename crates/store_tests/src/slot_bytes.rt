@@ -12,56 +12,52 @@ const LAST_BYTES: &[u8] =
     b"\xFF\xFF\x00\x04\x05\x5A\x00\x01\x27\x0F\x00\x00\x02\xBC\x00\x00\x02\x58\x00\x00\x01\xF4\x00\x28\x00\x1E";
 
 // The slot has the record, and the record has the slot.
-fn check_slot(rt: &impl Abort, slot: &[u8; SLOT], kept: &Record) -> Result<(), Fail> {
-    check_bytes(rt, &encode(kept), slot)?;
+fn check_slot(rt: &impl Abort, slot: &[u8; SLOT], kept: &Record) {
+    check_bytes(rt, &encode(kept), slot);
     let Ok(found) = decode(slot) else {
-        return Err(Fail::new("refused"));
+        panic!(rt; "refused")
     };
     match found {
-        Some(found) => check_row(found.row(), kept.row()),
-        None => Err(Fail::new("empty")),
+        Some(found) => check_row(rt, found.row(), kept.row()),
+        None => panic!(rt; "empty"),
     }
 }
 
 #[test]
-fn open_slot(rt: HostRuntime) -> Result<(), Fail> {
-    check_slot(&rt, &known_slot(), &known_record()?)
+fn open_slot(rt: HostRuntime) {
+    check_slot(&rt, &known_slot(), &known_record(&rt));
 }
 
 #[test]
-fn closed_slot(rt: HostRuntime) -> Result<(), Fail> {
-    check_slot(&rt, &known_closed_slot(), &known_record()?.closed())
+fn closed_slot(rt: HostRuntime) {
+    check_slot(&rt, &known_closed_slot(), &known_record(&rt).closed());
 }
 
 #[test]
-fn full_slot(rt: HostRuntime) -> Result<(), Fail> {
-    let kept = record_with(AT, &METERS)?;
+fn full_slot(rt: HostRuntime) {
+    let kept = record_with(&rt, AT, &METERS);
     let slot = encode(&kept);
-    check_bytes(&rt, &slot[0..8], b"\x01\x10\x00\x00\x00\x07\x00\xFC")?;
-    check_bytes(&rt, &slot[398..424], LAST_BYTES)?;
-    check_slot(&rt, &slot, &kept)
+    check_bytes(&rt, &slot[0..8], b"\x01\x10\x00\x00\x00\x07\x00\xFC");
+    check_bytes(&rt, &slot[398..424], LAST_BYTES);
+    check_slot(&rt, &slot, &kept);
 }
 
 #[test]
-fn empty_slot(rt: HostRuntime) -> Result<(), Fail> {
+fn empty_slot(rt: HostRuntime) {
     match decode(&[0; SLOT]) {
-        Ok(found) => {
-            assert!(rt; found.is_none());
-            Ok(())
-        },
-        Err(_) => Err(Fail::new("refused")),
+        Ok(found) => assert!(rt; found.is_none()),
+        Err(_) => panic!(rt; "refused"),
     }
 }
 
 #[test]
-fn parts_of_slots(rt: HostRuntime) -> Result<(), Fail> {
+fn parts_of_slots(rt: HostRuntime) {
     let slot = known_slot();
     assert!(rt; decode(&[]).is_err());
     assert!(rt; decode(&slot[0..8]).is_err());
     assert!(rt; decode(&slot[0..423]).is_err());
     assert!(rt; decode(&[0; 423]).is_err());
     assert!(rt; decode(&[0; 425]).is_err());
-    Ok(())
 }
 
 #[test]
