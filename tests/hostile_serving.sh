@@ -1,13 +1,13 @@
 #!/bin/bash
 # Hostile input to the program: every answer byte, standard error and the exit status are compared.
-# Usage: tests/hostile.sh PROGRAM
+# Usage: tests/hostile_serving.sh PROGRAM
 # A line for each case that fails, and last 'N passed, M failed'. Exit status 1 if any failed.
 set -u
 export LC_ALL=C
 
 program=${1-}
 if [ ! -f "$program" ] || [ ! -x "$program" ]; then
-    echo 'usage: tests/hostile.sh PROGRAM' >&2
+    echo 'usage: tests/hostile_serving.sh PROGRAM' >&2
     exit 2
 fi
 

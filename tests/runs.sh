@@ -1,6 +1,6 @@
 #!/usr/bin/env bash
 # Whole runs of lines through the programs and through an independent model, compared answer by answer.
-# Usage: tests/runs.sh OREGON_LINES COOP_LINES
+# Usage: tests/runs.sh OREGON_SERVE COOP_LINES
 # Last line: 'N passed, M failed'. Exit status 1 if any failed.
 set -u
 export LC_ALL=C
@@ -9,7 +9,7 @@ oregon=${1-}
 coop=${2-}
 for program in "$oregon" "$coop"; do
     if [ ! -f "$program" ] || [ ! -x "$program" ]; then
-        echo 'usage: tests/runs.sh OREGON_LINES COOP_LINES' >&2
+        echo 'usage: tests/runs.sh OREGON_SERVE COOP_LINES' >&2
         exit 2
     fi
 done
