@@ -3,7 +3,7 @@ ghost use Rattle.std.specs.Prelude.{◌≡◌};
 ghost use Rattle.reading.specs.Refusal.{number_of, layer_of, place_of};
 
 // Where a refusal arises. The discriminant is the layer's number on an answer line.
-#[derive(Clone, Copy)]
+#[derive(Clone, Copy, Debug, PartialEq, Eq)]
 pub enum Layer {
     Line = 1,
     Frame = 2,
@@ -13,7 +13,7 @@ pub enum Layer {
     Store = 6,
 }
 
-#[derive(Clone, Copy)]
+#[derive(Clone, Copy, Debug, PartialEq, Eq)]
 pub enum Fault {
     // The answer buffer is too short.
     Buffer,

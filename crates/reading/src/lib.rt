@@ -10,7 +10,7 @@ mod site_month;
 pub use demand::{load_size, nearest_kw};
 pub use entry::Entry;
 pub use fault::{Fault, Layer};
-pub use reading::Reading;
+pub use reading::{Reading, Unlawful};
 pub use site_month::SiteMonth;
 
 // How many lines a statement has, numbered from 0: `lines` of the specifications.

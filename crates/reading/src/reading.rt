@@ -1,20 +1,30 @@
 // A meter reading within its limits.
-ghost use Rattle.std.specs.Prelude.{◌≡◌, true, false, MatchOption};
+ghost use Rattle.std.specs.Prelude.{◌≡◌, true, false, MatchResult};
 ghost use Rattle.reading.specs.Limits.{lawful, Limits};
 
 use crate::entry::Entry;
 
 // An entry that keeps the limits of a reading. Nothing but a check makes one.
-#[derive(Clone, Copy)]
+#[derive(Clone, Copy, Debug, PartialEq, Eq)]
 pub struct Reading {
     entry: Entry,
     ghost within: { lawful entry ≡ true },
 }
 
-impl Reading {
-    // The entry as a reading, or nothing where it breaks a limit.
-    pub fn check(entry: Entry) -> Option<Reading>
-        ensures cases { MatchOption result (lawful entry ≡ false) (λ x. x.entry ≡ entry) }
+// Plain data that breaks a rule of what was to be made of it.
+#[derive(Clone, Copy, Debug, PartialEq, Eq)]
+pub struct Unlawful;
+
+// The entry as a reading, unless it breaks a limit.
+impl TryFrom<Entry> for Reading {
+    ghost use Rattle.reading.specs.Checked.{Checked};
+
+    type Error = Unlawful;
+
+    ghost try_from_gives = { Checked };
+
+    fn try_from(entry: Entry) -> Result<Reading, Unlawful>
+        ensures cases { MatchResult result (λ x. x.entry ≡ entry) (λ _. lawful entry ≡ false) }
     {
         if entry.flags <= 15
             && entry.kwh <= 999_999
@@ -26,12 +36,14 @@ impl Reading {
             && entry.off_hours <= entry.kwh
             && entry.peak_demand <= entry.demand
         {
-            Some(Reading { entry })
+            Ok(Reading { entry })
         } else {
-            None
+            Err(Unlawful)
         }
     }
+}
 
+impl Reading {
     // The entry that the reading was made from.
     pub fn entry(&self) -> Entry
         ensures value { result ≡ self.now.entry }
