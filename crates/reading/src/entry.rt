@@ -21,6 +21,7 @@ pub struct Entry {
     pub load: u16,
 }
 
+// The flags by the sheets' names. They share the test of a bit: to call it with a flag's name as an argument is no plainer.
 impl Entry {
     pub fn primary_delivery(&self) -> bool
         ensures { result ≡ primary_delivery self.now }

@@ -3,6 +3,7 @@ ghost use Rattle.std.specs.Prelude.{◌≡◌, true, false, MatchResult};
 ghost use Rattle.reading.specs.Limits.{lawful, Limits};
 
 use crate::entry::Entry;
+use crate::limits::{MOST_DEMAND, MOST_FLAGS, MOST_KVAR, MOST_KWH, MOST_LOAD, MOST_POWER_FACTOR};
 
 // An entry that keeps the limits of a reading. Nothing but a check makes one.
 #[derive(Clone, Copy, Debug, PartialEq, Eq)]
@@ -26,13 +27,13 @@ impl TryFrom<Entry> for Reading {
     fn try_from(entry: Entry) -> Result<Reading, Unlawful>
         ensures cases { MatchResult result (λ x. x.entry ≡ entry) (λ _. lawful entry ≡ false) }
     {
-        if entry.flags <= 15
-            && entry.kwh <= 999_999
-            && entry.demand <= 99_999
-            && entry.peak_demand <= 99_999
-            && entry.kvar <= 9_999
-            && entry.power_factor <= 100
-            && entry.load <= 10_000
+        if entry.flags <= MOST_FLAGS
+            && entry.kwh <= MOST_KWH
+            && entry.demand <= MOST_DEMAND
+            && entry.peak_demand <= MOST_DEMAND
+            && entry.kvar <= MOST_KVAR
+            && entry.power_factor <= MOST_POWER_FACTOR
+            && entry.load <= MOST_LOAD
             && entry.off_hours <= entry.kwh
             && entry.peak_demand <= entry.demand
         {
