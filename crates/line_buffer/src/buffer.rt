@@ -1,12 +1,13 @@
 // The line that is arriving.
-ghost use Rattle.std.specs.Prelude.{◌≤◌};
+use arrayvec::ArrayVec;
 
 mod methods;
 
-// The first 129 characters of a line: one more than a line may have, which is enough to answer any line.
-#[derive(Clone, Copy)]
+// The most characters of a line that are kept: one more than a line may have, which is enough to answer any line.
+const KEPT: usize = 129;
+
+// The first characters of a line.
+#[derive(Drop)]
 pub struct LineBuffer {
-    bytes: [u8; 129],
-    len: usize,
-    ghost most: { len ≤ 129 },
+    bytes: ArrayVec<u8, KEPT>,
 }

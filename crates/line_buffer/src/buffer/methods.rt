@@ -3,6 +3,7 @@ ghost use Rattle.std.specs.Prelude.{◌≡◌, ℕ, List, [], ◌∷◌, ◌++�
 ghost use Rattle.line_buffer.specs.Received.{received, StandsFor};
 
 use crate::buffer::LineBuffer;
+use arrayvec::ArrayVec;
 
 impl LineBuffer {
     // No line yet.
@@ -10,18 +11,17 @@ impl LineBuffer {
         ensures { received result ≡ [] }
     {
         LineBuffer {
-            bytes: [0; 129],
-            len: 0,
+            bytes: ArrayVec::new(),
         }
     }
 
     // One character more. Those past the 129th are not kept.
+    #[tactic(auto, using(crate::proofs::Fronts::push_room, crate::proofs::Fronts::push_full))]
     pub fn push(&mut self, byte: u8)
         ensures { received self.new ≡ take 129 (received self.old ++ byte ∷ []) }
     {
-        if self.len < 129 {
-            self.bytes[self.len] = byte;
-            self.len += 1;
+        if !self.bytes.is_full() {
+            self.bytes.push(byte);
         }
     }
 
@@ -29,20 +29,21 @@ impl LineBuffer {
     pub fn clear(&mut self)
         ensures { received self.new ≡ [] }
     {
-        self.len = 0;
+        self.bytes.clear();
     }
 
     pub fn is_empty(&self) -> bool
         ensures { result ≡ (length (received self.now) == 0) }
     {
-        self.len == 0
+        self.bytes.is_empty()
     }
 
     // The line, or the front of it that is answered as the line would be.
+    #[tactic(auto, using(crate::proofs::Fronts::stands))]
     pub fn line(&self) -> &[u8]
         ensures value { result.now ≡ received self.now }
         ensures stands { (line : List ℕ) → received self.now ≡ take 129 line → StandsFor line result.now }
     {
-        &self.bytes[0..self.len]
+        self.bytes.as_slice()
     }
 }
