@@ -1,6 +1,8 @@
 // A frame: kind, length byte, payload and check byte.
-ghost use Rattle.std.specs.Prelude.{◌≡◌, ◌≤◌, true, take};
+ghost use Rattle.std.specs.Prelude.{◌≡◌, ◌≤◌, true, length};
 ghost use Rattle.frame.specs.Seal.{Sealed, all_bytes};
+
+use arrayvec::ArrayVec;
 
 mod parts;
 mod read;
@@ -8,13 +10,17 @@ mod write;
 
 pub use parts::Field;
 
+// The most characters of a line.
+pub const LINE: usize = 128;
+
+// The most bytes of a frame, two characters each.
+const SIZE: usize = LINE / 2;
+
 // At most 64 bytes, whose sum is a multiple of 256.
-#[derive(Clone, Copy)]
+#[derive(Drop)]
 pub struct Frame {
-    bytes: [u8; 64],
-    len: usize,
-    ghost least: { 3 ≤ len },
-    ghost most: { len ≤ 64 },
-    ghost fit: { all_bytes (take len bytes) ≡ true },
-    ghost checked: { Sealed (take len bytes) },
+    bytes: ArrayVec<u8, SIZE>,
+    ghost least: { 3 ≤ length bytes.items },
+    ghost fit: { all_bytes bytes.items ≡ true },
+    ghost checked: { Sealed bytes.items },
 }

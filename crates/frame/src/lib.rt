@@ -4,4 +4,4 @@
 mod digit;
 mod frame;
 
-pub use frame::{Field, Frame};
+pub use frame::{Field, Frame, LINE};

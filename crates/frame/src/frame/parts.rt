@@ -29,9 +29,9 @@ impl Frame {
     // The bytes of the frame.
     pub(crate) fn bytes(&self) -> &[u8]
         ensures value { result.now ≡ held self.now }
-        ensures len { length result.now ≡ self.now.len }
+        ensures most { length (held self.now) ≤ 64 }
     {
-        &self.bytes[0..self.len]
+        self.bytes.as_slice()
     }
 
     // The frame taken apart.
@@ -58,6 +58,7 @@ impl Frame {
     }
 
     // A refusal, unless the frame carries a payload of this length.
+    #[tactic(auto, using(crate::proofs::Assembly::whole))]
     pub fn expect(&self, payload: u8) -> Result<(), Fault>
         ensures refused { result_err result ≡ when (not (carries payload (held self.now))) PayloadLength }
         ensures len { OnOk result (length (held self.now) ≡ payload + 3) }
@@ -84,6 +85,7 @@ impl Frame {
 }
 
 // The number that some bytes spell, the high byte first.
+#[tactic(auto, using(crate::proofs::Numbers::number_step, crate::proofs::Numbers::room))]
 fn number_of(bytes: &[u8]) -> u32
     requires { length bytes.now ≤ 4 }
     ensures value { result ≡ number_from_digits 256 bytes.now }
