@@ -1,6 +1,7 @@
 pub mod Orders
 pub mod Passing
 pub mod Placing
+pub mod Searching
 pub mod Laws
 pub mod Pinned
 pub mod Edited

@@ -2,7 +2,7 @@
 ghost use Rattle.std.specs.Prelude.{◌≡◌, ◌+◌, ◌-◌, ◌<◌, ◌≤◌, true, ◌∷◌, length, take, drop, is_ok, MatchResult};
 ghost use Rattle.std.specs.List.{insert, remove, list_all};
 ghost use Rattle.record.specs.Holding.{lawful_reading};
-ghost use Rattle.record.specs.Meters.{rising, stands, Place, StandsAt, BelongsAt, blank as blank_entry};
+ghost use Rattle.record.specs.Meters.{rising, stands, StandsAt, BelongsAt, blank as blank_entry};
 ghost use Rattle.record.specs.Rows.{is_blank};
 
 use crate::row::{BLANK, READINGS};
@@ -12,72 +12,28 @@ use reading::{Entry, Reading};
 pub(crate) fn all_lawful(entries: &[Entry]) -> bool
     ensures { result ≡ list_all lawful_reading entries.now }
 {
-    for entry in entries {
-        if !lawful(entry) {
-            return false;
-        }
-    }
-    true
+    entries.iter().all(lawful)
 }
 
 // Whether an entry is a lawful reading.
 fn lawful(entry: &Entry) -> bool
     ensures { result ≡ lawful_reading entry.now }
 {
-    Reading::check(*entry).is_some()
+    Reading::try_from(*entry).is_ok()
 }
 
 // Whether each is zero.
 pub(crate) fn all_blank(entries: &[Entry]) -> bool
     ensures { result ≡ list_all is_blank entries.now }
 {
-    for entry in entries {
-        if !blank(entry) {
-            return false;
-        }
-    }
-    true
-}
-
-// Whether an entry is zero.
-fn blank(entry: &Entry) -> bool
-    ensures { result ≡ is_blank entry.now }
-{
-    entry.meter == 0
-        && entry.schedule == 0
-        && entry.flags == 0
-        && entry.power_factor == 0
-        && entry.kwh == 0
-        && entry.off_hours == 0
-        && entry.demand == 0
-        && entry.peak_demand == 0
-        && entry.kvar == 0
-        && entry.load == 0
+    entries.iter().all(|entry| *entry == BLANK)
 }
 
 // Whether the meters rise.
 pub(crate) fn climbing(entries: &[Entry]) -> bool
     ensures { result ≡ rising entries.now }
 {
-    for i in 1..entries.len() {
-        if entries[i].meter <= entries[i - 1].meter {
-            return false;
-        }
-    }
-    true
-}
-
-// How many entries have lower meters.
-fn place(entries: &[Entry], meter: u16) -> usize
-    ensures bound { result ≤ length entries.now }
-    ensures value { Place meter entries.now result }
-{
-    for (i, entry) in entries.iter().enumerate() {
-        if entry.meter >= meter {
-            return i;
-        }
-    }
-    entries.len()
+    entries.is_sorted_by(|entry, next| entry.meter < next.meter)
 }
 
 // Where the reading of a meter stands, else where it would be put.
@@ -86,12 +42,7 @@ pub(crate) fn search(entries: &[Entry], meter: u16) -> Result<usize, usize>
     ensures found { is_ok result ≡ stands meter entries.now }
     ensures place { MatchResult result (StandsAt meter entries.now) (BelongsAt meter entries.now) }
 {
-    let place = place(entries, meter);
-    if place < entries.len() && entries[place].meter == meter {
-        Ok(place)
-    } else {
-        Err(place)
-    }
+    entries.binary_search_by_key(&meter, |entry| entry.meter)
 }
 
 // Puts an entry at a place among the first `count`, and moves those from there on up by one.

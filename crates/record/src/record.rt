@@ -10,7 +10,7 @@ mod parts;
 
 // A row with a month within its limit and 1 to 16 lawful readings in rising meter order, whose unused entries are zero.
 // Nothing but a check or an edit of a record makes one.
-#[derive(Clone, Copy)]
+#[derive(Clone, Copy, Debug, PartialEq, Eq)]
 pub struct Record {
     row: Row,
     ghost lawful: { lawful_row row ≡ true },

@@ -22,7 +22,7 @@ pub const BLANK: Entry = Entry {
     load: 0,
 };
 
-#[derive(Clone, Copy)]
+#[derive(Clone, Copy, Debug, PartialEq, Eq)]
 pub enum State {
     // No record is kept here.
     Empty,
@@ -35,23 +35,17 @@ impl State {
     pub fn is_used(self) -> bool
         ensures { result ≡ used self }
     {
-        match self {
-            State::Empty => false,
-            State::Open | State::Closed => true,
-        }
+        self != State::Empty
     }
 
     pub fn is_closed(self) -> bool
         ensures { result ≡ is_closed self }
     {
-        match self {
-            State::Closed => true,
-            State::Empty | State::Open => false,
-        }
+        self == State::Closed
     }
 }
 
-#[derive(Clone, Copy)]
+#[derive(Clone, Copy, Debug, PartialEq, Eq)]
 pub struct Row {
     pub at: SiteMonth,
     pub state: State,
@@ -73,6 +67,6 @@ impl Row {
     pub fn is_of(&self, at: SiteMonth) -> bool
         ensures { result ≡ keyed at self.now }
     {
-        self.state.is_used() && self.at.site == at.site && self.at.month == at.month
+        self.state.is_used() && self.at == at
     }
 }

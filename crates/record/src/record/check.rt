@@ -1,21 +1,28 @@
 // Making a record from a row.
-ghost use Rattle.std.specs.Prelude.{◌≡◌, ◌≤◌, true, false, MatchOption};
+ghost use Rattle.std.specs.Prelude.{◌≡◌, ◌≤◌, true, false, MatchResult};
 ghost use Rattle.record.specs.Rows.{lawful_row, padded, holding};
 ghost use Rattle.record.specs.Holding.{lawful_holding};
 
 use crate::entries::{all_blank, all_lawful, climbing};
 use crate::record::Record;
 use crate::row::{READINGS, Row};
+use reading::Unlawful;
 
-impl Record {
-    // The row as a record, or nothing where it breaks a rule.
-    pub fn check(row: Row) -> Option<Record>
-        ensures cases { MatchOption result (lawful_row row ≡ false) (λ x. x.row ≡ row) }
+// The row as a record, unless it breaks a rule.
+impl TryFrom<Row> for Record {
+    ghost use Rattle.record.specs.Checked.{Checked};
+
+    type Error = Unlawful;
+
+    ghost try_from_gives = { Checked };
+
+    fn try_from(row: Row) -> Result<Record, Unlawful>
+        ensures cases { MatchResult result (λ x. x.row ≡ row) (λ _. lawful_row row ≡ false) }
     {
         if row.state.is_used() && row.count <= READINGS && is_padded(&row) && is_lawful(&row) {
-            Some(Record { row })
+            Ok(Record { row })
         } else {
-            None
+            Err(Unlawful)
         }
     }
 }

@@ -1,13 +1,8 @@
-use Rattle.record.proofs.Orders.{neighbours_fail, neighbours_more, neighbours_all}
+use Rattle.std.proofs.Common.{rules}
+use Rattle.std.proofs.lemmas.List.Sorted.{answers_always}
+use Rattle.record.specs.Meters.{precedes}
+use Rattle.record.proofs.Orders.{rising_is}
 use Rattle.record.proofs.entries.climbing.Goals as goal
 
-pub returns-then-entries-i : goal.returns-then-entries-i
-returns-then-entries-i c =
-    neighbours_fail c.args.entries.now c.loop-i.i c.loop-i.auto.i c.loop-i.invariant c.loop-i-test.true c.if-entries-i.true
-
-pub loop-i-preserved : goal.loop-i-preserved
-loop-i-preserved c =
-    neighbours_more c.args.entries.now c.loop-i.i c.loop-i.auto.i c.loop-i.invariant c.loop-i-test.true c.if-entries-i.false
-
 pub returns : goal.returns
-returns c = neighbours_all c.args.entries.now c.loop-i.i c.loop-i.auto.i c.loop-i.invariant c.loop-i-test.false
+returns c = rising_is c.args.entries.now c.is_sorted_by.result (c.is_sorted_by.ensures.cases precedes (answers_always _ _ _ (λ f a r g called. search rules)))
