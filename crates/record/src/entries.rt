@@ -1,11 +1,11 @@
 // The entries of a record.
-ghost use Rattle.std.specs.Prelude.{◌≡◌, ◌+◌, ◌-◌, ◌<◌, ◌≤◌, true, ◌∷◌, length, take, drop, is_ok, MatchResult};
+ghost use Rattle.std.specs.Prelude.{◌≡◌, ◌-◌, ◌<◌, true, [], ◌∷◌, ◌++◌, length, take, is_ok, MatchResult};
 ghost use Rattle.std.specs.List.{insert, remove, list_all};
 ghost use Rattle.record.specs.Holding.{lawful_reading};
 ghost use Rattle.record.specs.Meters.{rising, stands, StandsAt, BelongsAt, blank as blank_entry};
 ghost use Rattle.record.specs.Rows.{is_blank};
 
-use crate::row::{BLANK, READINGS};
+use crate::row::BLANK;
 use reading::{Entry, Reading};
 
 // Whether each is a lawful reading.
@@ -45,22 +45,21 @@ pub(crate) fn search(entries: &[Entry], meter: u16) -> Result<usize, usize>
     entries.binary_search_by_key(&meter, |entry| entry.meter)
 }
 
-// Puts an entry at a place among the first `count`, and moves those from there on up by one.
-pub(crate) fn insert(entries: &mut [Entry; READINGS], count: usize, place: usize, entry: Entry)
-    requires { (count < 16) × (place ≤ count) }
-    ensures front { take (count + 1) entries.new ≡ insert (take count entries.old) place entry }
-    ensures rest { drop (count + 1) entries.new ≡ drop (count + 1) entries.old }
+// Puts an entry at a place and moves those from there on up by one. The last falls out.
+pub(crate) fn insert(entries: &mut [Entry], place: usize, entry: Entry)
+    requires { place < length entries.old }
+    ensures { entries.new ≡ insert (take (length entries.old - 1) entries.old) place entry }
 {
-    entries[count] = entry;
-    entries[place..count + 1].rotate_right(1);
+    entries[place..].rotate_right(1);
+    entries[place] = entry;
 }
 
-// Takes the entry at a place among the first `count` out, and moves those behind it down by one.
-pub(crate) fn remove(entries: &mut [Entry; READINGS], count: usize, place: usize)
-    requires { (count ≤ 16) × (place < count) }
-    ensures front { take (count - 1) entries.new ≡ remove (take count entries.old) place }
-    ensures rest { drop (count - 1) entries.new ≡ blank_entry ∷ drop count entries.old }
+// Takes the entry at a place out and moves those behind it down by one. The last is zero.
+pub(crate) fn remove(entries: &mut [Entry], place: usize)
+    requires { place < length entries.old }
+    ensures { entries.new ≡ remove entries.old place ++ blank_entry ∷ [] }
 {
-    entries[place..count].rotate_left(1);
-    entries[count - 1] = BLANK;
+    let last = entries.len() - 1;
+    entries[place..].rotate_left(1);
+    entries[last] = BLANK;
 }

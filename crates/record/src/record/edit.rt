@@ -37,12 +37,17 @@ impl Record {
         let Err(place) = entries::search(self.readings(), entry.meter) else {
             return Err(Fault::Standing);
         };
-        let mut row = self.row;
-        if row.count == READINGS {
+        if self.row.count == READINGS {
             return Err(Fault::RecordFull);
         }
-        entries::insert(&mut row.entries, row.count, place, entry);
-        row.count += 1;
+        let count = self.row.count + 1;
+        let mut entries = self.row.entries;
+        entries::insert(&mut entries[..count], place, entry);
+        let row = Row {
+            count,
+            entries,
+            ..self.row
+        };
         Ok(Record { row })
     }
 
@@ -70,12 +75,17 @@ impl Record {
         let Ok(place) = entries::search(self.readings(), meter) else {
             return Err(Fault::NoMeter);
         };
-        let mut row = self.row;
-        if row.count == 1 {
+        let count = self.row.count;
+        if count == 1 {
             return Ok(None);
         }
-        entries::remove(&mut row.entries, row.count, place);
-        row.count -= 1;
+        let mut entries = self.row.entries;
+        entries::remove(&mut entries[..count], place);
+        let row = Row {
+            count: count - 1,
+            entries,
+            ..self.row
+        };
         Ok(Some(Record { row }))
     }
 

@@ -27,7 +27,7 @@ returns c =
     let is = ap (λ x. take row.count (set row.entries c.in-Ok.place x)) v ∙ replacing_is row c.args.self.now.lawful e c.in-Ok.place at in
     let stood : stands e.meter es ≡ true = ap is_some (stands_here e.meter es c.in-Ok.place at.place at.within at.own) in
     record {
-      refused = rw stood;
+      refused = search rules;
       value = ap (λ (rs : List Entry). record { at = row.at; closed = is_closed row.state; readings = rs }) is;
       meters = subst (Puts e es) (sym is) (puts_replaced e es stood);
     }
