@@ -1,16 +1,16 @@
 -- A table is a store: the laws, and what keeping and removing a record by one row leaves.
-use Rattle.std.proofs.Common.{◌≡◌, ℕ, ◌<◌, ◌≤◌, true, false, cond, ◌&&◌, leb, List, length, get_or, set, is_some, Some, None, Ok, Err, Option, sym, refl, ap, ◌∙◌, arith}
+use Rattle.std.proofs.Common.{◌≡◌, ℕ, ◌<◌, ◌≤◌, true, false, cond, ◌&&◌, leb, ◌⊎◌, List, length, get_or, set, is_some, Some, None, Ok, Err, Option, sym, refl, ap, ◌∙◌, inl, inr, arith}
 use Rattle.std.specs.List.{list_all}
 use Rattle.std.proofs.lemmas.List.{length-set}
 use Rattle.std.proofs.lemmas.Bool.{and_parts, and_from, cond-true, cond-false, cond_both, both_ways, le-leb, lt-leb, or_right}
 use Rattle.reading.specs.declared.fault.Fault.TheVariants.{StoreFull}
 use Rattle.reading.specs.declared.site_month.SiteMonth.{SiteMonth}
-use Rattle.record.proofs.Passing.{pass_getD}
+use Rattle.std.proofs.lemmas.List.Sums.{AllPass-from_list_all}
 use Rattle.record.specs.Holding.{same, lawful_holding}
 use Rattle.record.specs.Rows.{holding, padded, lawful_row, is_vacant, tidy, vacant, keyed}
 use Rattle.record.specs.States.{used}
 use Rattle.record.specs.declared.row.Row.{Row}
-use Rattle.store.specs.Changes.{Kept, Removed}
+use Rattle.store.specs.Changes.{Copied, Kept, Removed}
 use Rattle.store.specs.Meaning.{Lawful, look_up, holds, once}
 use Rattle.store.specs.Table.{held_in, lawful_table, table_meaning, Found}
 use Rattle.store.proofs.Keys.{same_itself, same_is, none_held}
@@ -99,6 +99,15 @@ module _ (rows : List Row) (lawful : lawful_table rows ≡ true) (i : ℕ) (with
             count = rw none (let n = count_set new rows i within in let a = one_new in omega arith);
           }
 
+    -- In its own row or a vacant one.
+    pub kept_in_lawful : (keyed new.at (get_or rows i vacant) ≡ true) ⊎ ((holds new.at (held_in rows) ≡ false) × (used (get_or rows i vacant).state ≡ false)) → lawful_table (set rows i new) ≡ true
+    kept_in_lawful (inl has) = kept_again_lawful has
+    kept_in_lawful (inr (none, free)) = kept_new_lawful free none
+
+    pub kept_in : (keyed new.at (get_or rows i vacant) ≡ true) ⊎ ((holds new.at (held_in rows) ≡ false) × (used (get_or rows i vacant).state ≡ false)) → Kept (table_meaning rows) (holding new) (table_meaning (set rows i new)) (Ok tt)
+    kept_in (inl has) = kept_again has
+    kept_in (inr (none, free)) = kept_new free none
+
   -- Removing the record of a row.
   module _ (at : SiteMonth) (has : keyed at (get_or rows i vacant) ≡ true) where
     old_at : Under at (get_or rows i vacant)
@@ -132,7 +141,7 @@ found_holds rows at (Some i) (within, has) = sym (holds_at at rows i within has)
 module _ (rows : List Row) (lawful : lawful_table rows ≡ true) (i : ℕ) (within : i < length rows) (at : SiteMonth) (has : keyed at (get_or rows i vacant) ≡ true) where
   pub read_lawful : lawful_row (get_or rows i vacant) ≡ true
   read_lawful =
-      used_lawful (get_or rows i vacant) (pass_getD tidy rows i vacant within (and_parts (list_all tidy rows) (once (held_in rows)) lawful).0)
+      used_lawful (get_or rows i vacant) (AllPass-from_list_all tidy rows (and_parts (list_all tidy rows) (once (held_in rows)) lawful).0 i vacant within)
       (and_parts (used (get_or rows i vacant).state) (same at (get_or rows i vacant).at) has).0
 
   pub read_row : look_up at (held_in rows) ≡ Some (holding (get_or rows i vacant))
@@ -140,6 +149,10 @@ module _ (rows : List Row) (lawful : lawful_table rows ≡ true) (i : ℕ) (with
 
   pub read_found : true ≡ holds at (held_in rows)
   read_found = sym (holds_at at rows i within has)
+
+-- There is no record to read.
+pub read_not : (rows : List Row) (at : SiteMonth) → holds at (held_in rows) ≡ false → (place : Row) → record { found : false ≡ holds at (held_in rows); after : Copied (look_up at (held_in rows)) place place }
+read_not rows at none place = record { found = sym none; after = rw (none_held (look_up at (held_in rows)) none) refl }
 
 -- A record is refused: its site month is new, and no row is vacant.
 pub kept_not : (rows : List Row) (new : Row) → holds new.at (held_in rows) ≡ false → list_all (λ row. used row.state) rows ≡ true → Kept (table_meaning rows) (holding new) (table_meaning rows) (Err StoreFull)

@@ -27,7 +27,7 @@ impl<'a> Store for Rows<'a> {
         let Some(i) = self.position(at) else {
             return false;
         };
-        let Some(found) = Record::check(self.rows[i]) else {
+        let Ok(found) = Record::try_from(self.rows[i]) else {
             unreachable()
         };
         *place = found;
@@ -40,11 +40,7 @@ impl<'a> Store for Rows<'a> {
         ensures rows { MatchResult result (λ _. OneRow kept.now.row self.old.rows.now self.new.rows.now) (λ _. self.new.rows.now ≡ self.old.rows.now) }
     {
         let row = *kept.row();
-        if let Some(i) = self.position(row.at) {
-            self.rows[i] = row;
-            return Ok(());
-        }
-        let Some(i) = self.vacancy() else {
+        let Some(i) = self.room(row.at) else {
             return Err(Fault::StoreFull);
         };
         self.rows[i] = row;

@@ -1,46 +1,34 @@
 // Searching rows.
-ghost use Rattle.store.specs.Table.{Found, Free};
+ghost use Rattle.std.specs.Prelude.{◌≡◌, not, position};
+ghost use Rattle.std.specs.Option.{option_or};
+ghost use Rattle.record.specs.Rows.{keyed};
+ghost use Rattle.record.specs.States.{used};
 
 use crate::rows::Rows;
 use reading::SiteMonth;
-use record::Row;
 
 impl Rows<'_> {
     // The row that has the record of a site month.
     pub(crate) fn position(&self, at: SiteMonth) -> Option<usize>
-        ensures { Found self.now.rows.now at result }
+        ensures { result ≡ position (keyed at) self.now.rows.now }
     {
-        position(self.rows, at)
+        self.rows.iter().position(|row| row.is_of(at))
     }
 
     // The first row that is vacant.
     pub(crate) fn vacancy(&self) -> Option<usize>
-        ensures { Free self.now.rows.now result }
+        ensures { result ≡ position (λ row. not (used row.state)) self.now.rows.now }
     {
-        vacancy(self.rows)
+        self.rows.iter().position(|row| !row.state.is_used())
     }
-}
 
-// The row that has the record of a site month.
-fn position(rows: &[Row], at: SiteMonth) -> Option<usize>
-    ensures { Found rows.now at result }
-{
-    for (i, row) in rows.iter().enumerate() {
-        if row.is_of(at) {
-            return Some(i);
+    // The row that the record of a site month is kept in: its own, else the first vacant.
+    pub(crate) fn room(&self, at: SiteMonth) -> Option<usize>
+        ensures { result ≡ option_or (position (keyed at) self.now.rows.now) (position (λ row. not (used row.state)) self.now.rows.now) }
+    {
+        match self.position(at) {
+            None => self.vacancy(),
+            own => own,
         }
     }
-    None
-}
-
-// The first row that is vacant.
-fn vacancy(rows: &[Row]) -> Option<usize>
-    ensures { Free rows.now result }
-{
-    for (i, row) in rows.iter().enumerate() {
-        if !row.state.is_used() {
-            return Some(i);
-        }
-    }
-    None
 }
