@@ -13,9 +13,10 @@ ghost use Rattle.answer.specs.declared.answer.Answer.TheVariants.{Amounts};
 use crate::kind::AmountsKind;
 use frame::{Field, Frame};
 use reading::{Fault, LINES};
+use std::array;
 
 // How many bytes the amounts take.
-pub(crate) const PAYLOAD: usize = 4 * LINES;
+const PAYLOAD: usize = 4 * LINES;
 
 // Reads an answer line of amounts: its kind, with the amounts put into the caller's place. A refused line leaves the place as it was.
 pub fn read_amounts(line: &[u8], amounts: &mut [i32; LINES]) -> Result<AmountsKind, Fault>
@@ -25,7 +26,7 @@ pub fn read_amounts(line: &[u8], amounts: &mut [i32; LINES]) -> Result<AmountsKi
     ensures spelling { IfOk result (λ kind. line.now ≡ answer_line (Amounts kind amounts.new)) }
 {
     let frame = Frame::read(line)?;
-    let kind = AmountsKind::of(frame.kind())?;
+    let kind = AmountsKind::try_from(frame.kind())?;
     frame.expect(PAYLOAD as u8)?;
     take_amounts(&frame, amounts);
     Ok(kind)
@@ -36,11 +37,11 @@ fn take_amounts(frame: &Frame, amounts: &mut [i32; LINES])
     requires { length (held frame.now) ≡ 55 }
     ensures { amounts.new ≡ amounts_of (payload_of (held frame.now)) }
 {
-    for i in 0..LINES {
+    *amounts = array::from_fn(|i| {
         let field = Field {
             byte: 3 + 4 * i,
             width: 4,
         };
-        amounts[i] = frame.number(field).cast_signed();
-    }
+        frame.number(field).cast_signed()
+    });
 }

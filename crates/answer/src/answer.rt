@@ -8,12 +8,11 @@ ghost use Rattle.answer.specs.Answers.{answer_frame, answer_line, AmountsReadBac
 ghost use Rattle.answer.specs.Kinds.{kind_byte};
 ghost use Rattle.answer.specs.declared.answer.Answer.TheVariants.{Refused};
 
-use crate::amounts::PAYLOAD;
 use crate::kind::AmountsKind;
 use frame::Frame;
 use reading::{Fault, LINES};
 
-#[derive(Clone, Copy)]
+#[derive(Clone, Copy, Debug, PartialEq, Eq)]
 pub enum Answer {
     // One amount for each statement line, in whole cents.
     Amounts {
@@ -61,13 +60,6 @@ fn refusal_frame(fault: Fault) -> Frame
 fn amounts_frame(kind: AmountsKind, amounts: &[i32; LINES]) -> Frame
     ensures { held result ≡ framed (kind_byte kind) (amounts_payload amounts.now) }
 {
-    let mut payload = [0; PAYLOAD];
-    for (i, amount) in amounts.iter().enumerate() {
-        let [a, b, c, d] = amount.to_be_bytes();
-        payload[4 * i] = a;
-        payload[4 * i + 1] = b;
-        payload[4 * i + 2] = c;
-        payload[4 * i + 3] = d;
-    }
-    Frame::new(kind.byte(), &payload)
+    let payload = amounts.map(i32::to_be_bytes);
+    Frame::new(u8::from(kind), payload.as_flattened())
 }

@@ -1,5 +1,6 @@
 // The kinds of answer that carry amounts.
 ghost use Rattle.std.specs.Prelude.{◌≡◌, not, is_some, IfOk, Some};
+ghost use Rattle.std.specs.Option.{ok_or};
 ghost use Rattle.std.specs.Result.{result_err};
 ghost use Rattle.reading.specs.declared.fault.Fault.TheVariants.{Kind};
 ghost use Rattle.reading.specs.First.{when};
@@ -8,7 +9,7 @@ ghost use Rattle.answer.specs.Kinds.{kind_byte, amounts_kind};
 use reading::Fault;
 
 // Each discriminant is the answer's kind byte.
-#[derive(Clone, Copy)]
+#[derive(Clone, Copy, Debug, PartialEq, Eq)]
 pub enum AmountsKind {
     Post = 0x81,
     Cancel = 0x82,
@@ -16,9 +17,13 @@ pub enum AmountsKind {
     Account = 0x85,
 }
 
-impl AmountsKind {
-    // The kind that a byte names, or a refusal.
-    pub fn of(byte: u8) -> Result<AmountsKind, Fault>
+// The kind that a byte names, or a refusal.
+impl TryFrom<u8> for AmountsKind {
+    type Error = Fault;
+
+    ghost try_from_gives = { λ byte made. made ≡ ok_or (amounts_kind byte) Kind };
+
+    fn try_from(byte: u8) -> Result<AmountsKind, Fault>
         ensures refused { result_err result ≡ when (not (is_some (amounts_kind byte))) Kind }
         ensures value { IfOk result (λ kind. amounts_kind byte ≡ Some kind) }
     {
@@ -30,11 +35,13 @@ impl AmountsKind {
             _ => Err(Fault::Kind),
         }
     }
+}
 
-    // The kind byte.
-    pub fn byte(self) -> u8
-        ensures { result ≡ kind_byte self }
-    {
-        self as u8
+// The kind byte.
+impl From<AmountsKind> for u8 {
+    ghost from_gives = { λ kind byte. byte ≡ kind_byte kind };
+
+    fn from(kind: AmountsKind) -> u8 {
+        kind as u8
     }
 }

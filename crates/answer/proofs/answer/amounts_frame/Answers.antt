@@ -1,21 +1,14 @@
-use Rattle.std.proofs.Common.{◌*◌, get_or, pos, sym, ap, ◌∙◌, ap₂, arith, w32, SFits, rules}
-use Rattle.std.proofs.lemmas.List.{length-set, take_all}
+use Rattle.std.proofs.Common.{[], pos, ap, ◌∙◌, ap₂, rules}
+use Rattle.std.specs.List.{flat_map}
+use Rattle.std.proofs.lemmas.List.Folds.{flat_map-map}
 use Rattle.frame.specs.Seal.{framed}
-use Rattle.answer.specs.Amounts.{amounts_payload}
-use Rattle.answer.proofs.Payload.{write_more}
+use Rattle.answer.specs.Amounts.{amount_bytes}
+use Rattle.reading.proofs.Made.{map_same}
 use Rattle.answer.proofs.answer.amounts_frame.Goals as goal
-
-pub loop-i-preserved : goal.loop-i-preserved
-loop-i-preserved c =
-    let amounts = c.args.amounts.now in
-    let i = c.loop-i.i in
-    let fits : SFits w32 (get_or amounts i (pos 0)) = search rules in (
-      simp length-set c.loop-i.invariant.0,
-      write_more amounts c.loop-i.payload c.to_be_bytes.result i (omega arith) (omega arith) fits c.to_be_bytes.ensures c.loop-i.invariant.1,
-    )
 
 pub returns : goal.returns
 returns c =
-    let whole = take_all (4 * c.loop-i.i) c.loop-i.payload (omega arith) in
-    let all = take_all c.loop-i.i c.args.amounts.now (omega arith) in
-    c.new.ensures ∙ ap₂ framed c.byte.ensures (sym whole ∙ c.loop-i.invariant.1 ∙ ap amounts_payload all)
+    let amounts = c.args.amounts.now in
+    let bytes = map_same _ amount_bytes _ (λ z y f' call. search rules) amounts c.map-payload.result 13 (pos 0) [] c.told-amounts c.map-payload.ensures.items in
+    let payload = c.as_flattened.ensures.value ∙ ap (flat_map (λ x. x)) bytes ∙ flat_map-map (λ x. x) amount_bytes amounts in
+    c.new.ensures ∙ ap₂ framed c.from.ensures payload
