@@ -1,5 +1,5 @@
 -- A table of limits: where its fields lie, and what is known of a frame that passes it.
-use Rattle.std.proofs.Common.{◌≡◌, ℕ, zero, suc, ◌+◌, ◌<◌, ◌≤◌, true, ◌&&◌, leb, List, [], ◌∷◌, length, get_or, drop, Some, None, sym, ◌∙◌, ⊎_elim, le_of_suc-le-suc, not-suc-le-zero, arith}
+use Rattle.std.proofs.Common.{◌≡◌, ℕ, zero, suc, ◌+◌, ◌<◌, ◌≤◌, true, ◌&&◌, leb, List, [], ◌∷◌, ◌++◌, length, get_or, drop, Some, None, sym, refl, ◌∙◌, ⊎_elim, le_of_suc-le-suc, not-suc-le-zero, arith}
 use Rattle.std.specs.List.{AllByRecursion as All}
 use Rattle.std.proofs.lemmas.List.{at_drop_more, at_drop_all}
 use Rattle.std.proofs.lemmas.Bool.{and_parts, leb-true, lt-ltb, le-ltb, cases_lt}
@@ -56,6 +56,11 @@ first_within l ls frame h =
     (λ above. let e : Some (fault.Limit l.field.byte) ≡ None = rw (lt-ltb l.most v above) at h in let z : ◌≡◌ {A = ℕ} 0 1 = cc in absurd (omega arith))
     (λ within. (within, rw (le-ltb l.most v within) at h))
     (cases_lt l.most v)
+
+-- A frame that passes a table is tested by what follows it.
+pub limits_pass : (ls ms : List Limit) (frame : List ℕ) → None ≡ limit_test ls frame → limit_test (ls ++ ms) frame ≡ limit_test ms frame
+limits_pass [] ms frame h = refl
+limits_pass (l ∷ ls) ms frame h = let p = first_within l ls frame (sym h) in rw (le-ltb _ _ p.0) (limits_pass ls ms frame (sym p.1))
 
 -- Each field of a frame that passes is within its limit.
 pub all_within : (ls : List Limit) (frame : List ℕ) → limit_test ls frame ≡ None → All (λ l. field frame l.field.byte l.field.width ≤ l.most) ls

@@ -1,15 +1,16 @@
 // The fields of a request's frame.
-ghost use Rattle.std.specs.Prelude.{◌≡◌, ◌≤◌, length, IfOk};
+ghost use Rattle.std.specs.Prelude.{◌≡◌, ◌+◌, ◌*◌, ◌<◌, ◌≤◌, length, IfOk};
 ghost use Rattle.std.specs.Result.{result_err};
 ghost use Rattle.frame.specs.Held.{held};
 ghost use Rattle.frame.specs.Seal.{field};
 ghost use Rattle.reading.specs.First.{or_else};
-ghost use Rattle.request.specs.Fields.{site_month_in, meter_in, earlier_in, entry_in, reading_limits};
+ghost use Rattle.request.specs.Fields.{site_month_in, meter_in, earlier_in, entry_in, earlier_limits, reading_limits};
 ghost use Rattle.request.specs.Tests.{limit_test, excess_test};
 
 use crate::limit::{Limit, check_limits};
 use frame::{Field, Frame};
 use reading::{Entry, Fault, Reading, SiteMonth, load_size, nearest_kw};
+use std::array;
 
 const SITE: Field = Field { byte: 3, width: 4 };
 
@@ -38,8 +39,8 @@ pub(crate) const MONTH_LIMITS: [Limit; 1] = [Limit {
     most: 2_399,
 }];
 
-// In the order of their bytes.
-const READING_LIMITS: [Limit; 18] = [
+// A reading's but for the earlier demands, in the order of their bytes.
+const READING_LIMITS: [Limit; 7] = [
     Limit {
         field: MONTH,
         most: 2_399,
@@ -68,51 +69,27 @@ const READING_LIMITS: [Limit; 18] = [
         field: POWER_FACTOR,
         most: 100,
     },
-    Limit {
-        field: Field { byte: 33, width: 2 },
-        most: 9_999,
-    },
-    Limit {
-        field: Field { byte: 35, width: 2 },
-        most: 9_999,
-    },
-    Limit {
-        field: Field { byte: 37, width: 2 },
-        most: 9_999,
-    },
-    Limit {
-        field: Field { byte: 39, width: 2 },
-        most: 9_999,
-    },
-    Limit {
-        field: Field { byte: 41, width: 2 },
-        most: 9_999,
-    },
-    Limit {
-        field: Field { byte: 43, width: 2 },
-        most: 9_999,
-    },
-    Limit {
-        field: Field { byte: 45, width: 2 },
-        most: 9_999,
-    },
-    Limit {
-        field: Field { byte: 47, width: 2 },
-        most: 9_999,
-    },
-    Limit {
-        field: Field { byte: 49, width: 2 },
-        most: 9_999,
-    },
-    Limit {
-        field: Field { byte: 51, width: 2 },
-        most: 9_999,
-    },
-    Limit {
-        field: Field { byte: 53, width: 2 },
-        most: 9_999,
-    },
 ];
+
+// The demand of an earlier month, counted from 0: the last field of a reading.
+fn earlier_demand(i: usize) -> Field
+    requires { i < 11 }
+    ensures { result ≡ record { byte = 33 + 2 * i; width = 2 } }
+{
+    Field {
+        byte: 33 + 2 * i,
+        width: 2,
+    }
+}
+
+fn earlier_limits() -> [Limit; 11]
+    ensures { result ≡ earlier_limits }
+{
+    array::from_fn(|i| Limit {
+        field: earlier_demand(i),
+        most: 9_999,
+    })
+}
 
 // The site and the month.
 pub(crate) fn site_month(frame: &Frame) -> SiteMonth
@@ -133,59 +110,67 @@ pub(crate) fn meter(frame: &Frame) -> u16
     frame.number(METER) as u16
 }
 
-// The demands of the eleven earlier months.
-fn earlier(frame: &Frame) -> [u16; 11]
-    requires { length (held frame.now) ≡ 55 }
-    ensures { result ≡ earlier_in (held frame.now) }
-{
-    let mut demands = [0; 11];
-    for i in 0..11 {
-        let field = Field {
-            byte: 33 + 2 * i,
-            width: 2,
+// A frame that carries a reading.
+#[derive(Clone, Copy)]
+pub(crate) struct ReadingFrame<'a> {
+    pub(crate) frame: &'a Frame,
+    ghost whole: { length (held frame.now) ≡ 55 },
+}
+
+impl<'a> ReadingFrame<'a> {
+    // The demands of the eleven earlier months.
+    fn earlier(&self) -> [u16; 11]
+        ensures { result ≡ earlier_in (held self.now.frame.now) }
+    {
+        array::from_fn(|i| self.frame.number(earlier_demand(i)) as u16)
+    }
+
+    // The reading as plain data.
+    fn entry(&self) -> Entry
+        requires { field (held self.now.frame.now) 22 4 ≤ 99999 }
+        ensures { result ≡ entry_in (held self.now.frame.now) }
+    {
+        let frame = self.frame;
+        let demand = frame.number(DEMAND);
+        let load = load_size(nearest_kw(demand) as u16, &self.earlier());
+        Entry {
+            meter: meter(frame),
+            schedule: frame.number(SCHEDULE) as u16,
+            flags: frame.number(FLAGS) as u8,
+            power_factor: frame.number(POWER_FACTOR) as u8,
+            kwh: frame.number(KWH),
+            off_hours: frame.number(OFF_HOURS),
+            demand,
+            peak_demand: frame.number(PEAK_DEMAND),
+            kvar: frame.number(KVAR) as u16,
+            load,
+        }
+    }
+
+    // A refusal where a field is above its limit, at the first such.
+    fn check_limits(&self) -> Result<(), Fault>
+        ensures { result_err result ≡ limit_test reading_limits (held self.now.frame.now) }
+    {
+        check_limits(self.frame, &READING_LIMITS)?;
+        check_limits(self.frame, &earlier_limits())
+    }
+
+    // The reading of a post or a correction, or the first refusal that fits its fields.
+    pub(crate) fn reading(&self) -> Result<Reading, Fault>
+        ensures refused { result_err result ≡ or_else (limit_test reading_limits (held self.now.frame.now)) (excess_test (held self.now.frame.now)) }
+        ensures value { IfOk result (λ x. x.entry ≡ entry_in (held self.now.frame.now)) }
+    {
+        self.check_limits()?;
+        let entry = self.entry();
+        if entry.off_hours > entry.kwh {
+            return Err(Fault::OffHours);
+        }
+        if entry.peak_demand > entry.demand {
+            return Err(Fault::PeakDemand);
+        }
+        let Ok(reading) = Reading::try_from(entry) else {
+            unreachable()
         };
-        demands[i] = frame.number(field) as u16;
-    }
-    demands
-}
-
-// The reading as plain data.
-fn entry(frame: &Frame) -> Entry
-    requires { (length (held frame.now) ≡ 55) × (field (held frame.now) 22 4 ≤ 99999) }
-    ensures { result ≡ entry_in (held frame.now) }
-{
-    let demand = frame.number(DEMAND);
-    let load = load_size(nearest_kw(demand) as u16, &earlier(frame));
-    Entry {
-        meter: meter(frame),
-        schedule: frame.number(SCHEDULE) as u16,
-        flags: frame.number(FLAGS) as u8,
-        power_factor: frame.number(POWER_FACTOR) as u8,
-        kwh: frame.number(KWH),
-        off_hours: frame.number(OFF_HOURS),
-        demand,
-        peak_demand: frame.number(PEAK_DEMAND),
-        kvar: frame.number(KVAR) as u16,
-        load,
-    }
-}
-
-// The reading of a post or a correction, or the first refusal that fits its fields.
-pub(crate) fn reading(frame: &Frame) -> Result<Reading, Fault>
-    requires { length (held frame.now) ≡ 55 }
-    ensures refused { result_err result ≡ or_else (limit_test reading_limits (held frame.now)) (excess_test (held frame.now)) }
-    ensures value { IfOk result (λ x. x.entry ≡ entry_in (held frame.now)) }
-{
-    check_limits(frame, &READING_LIMITS)?;
-    let entry = entry(frame);
-    if entry.off_hours > entry.kwh {
-        return Err(Fault::OffHours);
-    }
-    if entry.peak_demand > entry.demand {
-        return Err(Fault::PeakDemand);
-    }
-    match Reading::check(entry) {
-        Some(reading) => Ok(reading),
-        None => unreachable(),
+        Ok(reading)
     }
 }

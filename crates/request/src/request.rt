@@ -8,13 +8,13 @@ ghost use Rattle.request.specs.Asked.{asked, asked_in, requested};
 ghost use Rattle.request.specs.Kinds.{payload_length};
 ghost use Rattle.request.specs.Tests.{field_tests, request_tests};
 
-use crate::fields;
+use crate::fields::{self, ReadingFrame};
 use crate::kind::RequestKind;
 use crate::limit::check_limits;
 use frame::Frame;
 use reading::{Fault, Reading, SiteMonth};
 
-#[derive(Clone, Copy)]
+#[derive(Clone, Copy, Debug, PartialEq, Eq)]
 pub enum Request {
     Post { at: SiteMonth, reading: Reading },
     Correct { at: SiteMonth, reading: Reading },
@@ -30,7 +30,7 @@ impl Request {
         ensures value { IfOk result (λ q. requested (bytes_of line.now) ≡ Some (asked q)) }
     {
         let frame = Frame::read(line)?;
-        let kind = RequestKind::of(frame.kind())?;
+        let kind = RequestKind::try_from(frame.kind())?;
         frame.expect(kind.payload())?;
         Request::of(kind, &frame)
     }
@@ -45,11 +45,11 @@ impl Request {
         match kind {
             RequestKind::Post => Ok(Request::Post {
                 at,
-                reading: fields::reading(frame)?,
+                reading: ReadingFrame { frame }.reading()?,
             }),
             RequestKind::Correct => Ok(Request::Correct {
                 at,
-                reading: fields::reading(frame)?,
+                reading: ReadingFrame { frame }.reading()?,
             }),
             RequestKind::Cancel => {
                 check_limits(frame, &fields::MONTH_LIMITS)?;

@@ -1,7 +1,7 @@
 use Rattle.std.proofs.Common.{◌∷◌, ap, ◌∙◌, ap₂}
 use Rattle.reading.specs.Demand.{kw_nearest, load_of}
 use Rattle.request.proofs.Readings.{same_entry}
-use Rattle.request.proofs.fields.entry.Goals as goal
+use Rattle.request.proofs.fields.ReadingFrame.entry.Goals as goal
 
 pub returns : goal.returns
 returns c =

@@ -60,9 +60,9 @@ returns c =
           fields_decide request_length request_field_tests c.args.line.now f read.value read.refused (payload_length kind)
           (length_of c.kind.result kind f c.kind.ensures named) _
           (c.in_ok-expect.ensures.refused ∙ ap (λ n. when (not (carries n f)) PayloadLength) c.payload.ensures)
-          (fields_of c.kind.result kind f _ c.kind.ensures named c.of-2.ensures.refused);
+          (fields_of c.kind.result kind f _ c.kind.ensures named c.of.ensures.refused);
       value =
-          IfOk-weaker c.of-2.result (λ q. asked q ≡ asked_in kind f) (λ q. requested (bytes_of c.args.line.now) ≡ Some (asked q))
+          IfOk-weaker c.of.result (λ q. asked q ≡ asked_in kind f) (λ q. requested (bytes_of c.args.line.now) ≡ Some (asked q))
           (λ q h. subst (λ l. requested l ≡ Some (asked q)) read.value (requested_as c.kind.result kind f (asked q) c.kind.ensures named h))
-          c.of-2.ensures.value;
+          c.of.ensures.value;
     }
