@@ -22,10 +22,6 @@ use Rattle.answer.specs.Answers.{answer_line, AmountsReadBack}
 use Rattle.answer.specs.Kinds.{kind_byte, amounts_kind, amounts_length}
 use Rattle.answer.proofs.Payload.{length_payload, payload_below, amounts_back, payload_back, length_payload_of}
 
--- A byte that is no kind's stops the frame that has it as its kind.
-pub no_kind : (byte : ℕ) (frame : List ℕ) (fault : Fault) → byte ≡ kind_of frame → Some fault ≡ when (not (is_some (amounts_kind byte))) Kind → Some fault ≡ kind_test amounts_length frame
-no_kind byte frame fault names h = grind (arith, nat_tests)
-
 pub length_of : (byte : ℕ) (kind : AmountsKind) (frame : List ℕ) → byte ≡ kind_of frame → amounts_kind byte ≡ Some kind → amounts_length (kind_of frame) ≡ Some 52
 length_of byte kind frame names is = grind (arith, nat_tests)
 

@@ -32,22 +32,6 @@ inside_at n [] i h below = absurd (not-suc-le-zero below)
 inside_at n (l ∷ ls) zero h below = in_frame n l (and_parts _ (inside n ls) h).0
 inside_at n (l ∷ ls) (suc i) h below = inside_at n ls i (and_parts _ (inside n ls) h).1 (le_of_suc-le-suc below)
 
-module _ (ls : List Limit) (frame : List ℕ) (i : ℕ) (so_far : limit_test (drop i ls) frame ≡ limit_test ls frame) where
-  here : i < length ls → limit_test (at ls i ∷ drop (i + 1) ls) frame ≡ limit_test ls frame
-  here below = sym (at_drop_more (λ l. limit_test l frame) ls i (limit 0 0 0) below) ∙ so_far
-
-  -- The field at i is above its limit.
-  pub limit_stops : i < length ls → (at ls i).most < field frame (at ls i).field.byte (at ls i).field.width → Some (fault.Limit (at ls i).field.byte) ≡ limit_test ls frame
-  limit_stops below above = rw (lt-ltb _ _ above) at (here below)
-
-  -- It is within.
-  pub limit_passes : i < length ls → field frame (at ls i).field.byte (at ls i).field.width ≤ (at ls i).most → limit_test (drop (i + 1) ls) frame ≡ limit_test ls frame
-  limit_passes below within = rw (le-ltb _ _ within) at (here below)
-
-  -- The table's end.
-  pub limit_ends : length ls ≤ i → None ≡ limit_test ls frame
-  limit_ends end = sym (at_drop_all (λ l. limit_test l frame) ls i end) ∙ so_far
-
 -- A frame that passes a table is within its first limit, and passes the rest.
 first_within : (l : Limit) (ls : List Limit) (frame : List ℕ) → limit_test (l ∷ ls) frame ≡ None → (field frame l.field.byte l.field.width ≤ l.most) × (limit_test ls frame ≡ None)
 first_within l ls frame h =

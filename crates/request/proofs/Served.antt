@@ -13,15 +13,6 @@ use Rattle.request.specs.Asked.{Asked, asked_in, requested}
 use Rattle.request.specs.Fields.{reading_limits}
 use Rattle.request.specs.Tests.{limit_test, excess_test, field_tests}
 
--- A byte names a kind where it has a payload length.
-named : (kind : Option RequestKind) → when (not (is_some kind)) Kind ≡ when (not (is_some (option_map payload_length kind))) Kind
-named None = refl
-named (Some kind) = refl
-
--- A byte that is no kind's stops the frame that has it as its kind.
-pub no_kind : (byte : ℕ) (frame : List ℕ) (fault : Fault) → byte ≡ kind_of frame → Some fault ≡ when (not (is_some (request_kind byte))) Kind → Some fault ≡ kind_test request_length frame
-no_kind byte frame fault names h = h ∙ named (request_kind byte) ∙ ap (λ b. when (not (is_some (request_length b))) Kind) names
-
 pub length_of : (byte : ℕ) (kind : RequestKind) (frame : List ℕ) → byte ≡ kind_of frame → request_kind byte ≡ Some kind → request_length (kind_of frame) ≡ Some (payload_length kind)
 length_of byte kind frame names is = ap request_length (sym names) ∙ ap (option_map payload_length) is
 

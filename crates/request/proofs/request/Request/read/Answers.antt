@@ -9,7 +9,7 @@ use Rattle.frame.proofs.Firsts.{line_stops, kind_stops, payload_stops, fields_de
 use Rattle.request.specs.Asked.{asked, asked_in, requested}
 use Rattle.request.specs.Kinds.{request_length, payload_length}
 use Rattle.request.specs.Tests.{request_field_tests}
-use Rattle.request.proofs.Served.{no_kind, length_of, fields_of, requested_as}
+use Rattle.request.proofs.Served.{length_of, fields_of, requested_as}
 use Rattle.request.proofs.request.Request.read.Goals as goal
 
 pub returns-in_err-frame : goal.returns-in_err-frame
@@ -18,19 +18,6 @@ returns-in_err-frame c =
     rw (p.1, p.2)
     record {
       refused = line_stops request_length request_field_tests c.args.line.now _ c.in_err-frame.ensures.refused;
-      value = tt;
-    }
-
-pub returns-in_err-kind : goal.returns-in_err-kind
-returns-in_err-kind c =
-    let p = err_from_is_err_and c.from_residual-in_err-kind.result c.from_residual-in_err-kind.ensures.1 in
-    let f = held c.in_ok-frame.frame in
-    let read = c.in_ok-frame.ensures in
-    rw (p.1, p.2)
-    record {
-      refused =
-          kind_stops request_length request_field_tests c.args.line.now f read.value read.refused _
-          (no_kind c.kind.result f _ c.kind.ensures c.in_err-kind.ensures.refused);
       value = tt;
     }
 
