@@ -1,3 +1,4 @@
 pub mod Meaning
 pub mod Money
 pub mod Settled
+pub mod Words

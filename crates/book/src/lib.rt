@@ -6,5 +6,5 @@ mod money;
 mod sense;
 
 pub use book::Book;
-pub use money::{half_up, rounded};
+pub use money::{CENT, half_up, rounded};
 pub use sense::Sense;

@@ -2,7 +2,8 @@
 ghost use Rattle.std.specs.Prelude.{◌≡◌, ◌*◌, ◌^◌, ◌≤◌};
 ghost use Rattle.book.specs.Money.{half_up, rounded as rounded_to};
 
-const CENT: u64 = 10_000_000;
+// A cent in units.
+pub const CENT: u64 = 10_000_000;
 
 // Units to whole cents, a half going up.
 pub fn half_up(units: u64) -> u64
