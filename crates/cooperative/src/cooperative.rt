@@ -1,13 +1,10 @@
 // The cooperative's industrial schedule.
 ghost use Rattle.std.specs.Prelude.{◌≡◌, ◌^◌, ◌≤◌};
 ghost use Rattle.cooperative.specs.Schedule.{cooperative as sheet, exact as exact_on, power_factor};
-ghost use Rattle.reading.specs.Limits.{Limits};
 ghost use Rattle.cooperative.specs.Laws.{keeps};
 
-use book::{Book, Sense, half_up, rounded};
-use reading::{Entry, Fault, Reading};
-
-const CENT: u64 = 10_000_000;
+use book::{Book, CENT, Sense, half_up, rounded};
+use reading::{Fault, Reading};
 
 const SCHEDULE: u16 = 5;
 // In cents.
@@ -80,17 +77,17 @@ fn exact(reading: &Reading, line: usize) -> u64
             (ENERGY * u64::from(first) + ENERGY_PAST * u64::from(past)) * 10_000
         }
         3 => OFF_HOURS * u64::from(entry.off_hours) * 10_000,
-        4 => power_factor(&entry),
+        4 => power_factor(reading),
         _ => 0,
     }
 }
 
 // What is missing to 97 percent, for each kW of demand.
-fn power_factor(entry: &Entry) -> u64
-    requires { Limits entry.now }
-    ensures value { result ≡ power_factor entry.now }
+fn power_factor(reading: &Reading) -> u64
+    ensures value { result ≡ power_factor reading.now.entry }
     ensures bound { result ≤ 10 ^ 15 }
 {
+    let entry = reading.entry();
     let missing = FULL_FACTOR.saturating_sub(entry.power_factor);
     u64::from(missing) * (DEMAND * u64::from(entry.demand)) * 10_000
 }
