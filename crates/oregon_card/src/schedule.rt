@@ -1,12 +1,14 @@
 // Oregon's schedules.
 ghost use Rattle.std.specs.Prelude.{◌≡◌, IfOk, Some};
+ghost use Rattle.std.specs.Option.{ok_or};
 ghost use Rattle.std.specs.Result.{result_err};
+ghost use Rattle.reading.specs.declared.fault.Fault.TheVariants as fault;
 ghost use Rattle.oregon_card.specs.Schedules.{schedule_of, place as place_of, offers_voltage, offers_multi_family, unoffered as unoffered_on, check};
 
 use reading::{Entry, Fault};
 
 // In the order of the rate tables and of the card.
-#[derive(Clone, Copy)]
+#[derive(Clone, Copy, Debug, PartialEq, Eq)]
 pub enum Schedule {
     S4,
     S5,
@@ -17,23 +19,27 @@ pub enum Schedule {
     S730,
 }
 
-impl Schedule {
-    // The schedule of a number.
-    fn of(number: u16) -> Option<Schedule>
-        ensures { result ≡ schedule_of number }
-    {
+// The schedule of a number.
+impl TryFrom<u16> for Schedule {
+    type Error = Fault;
+
+    ghost try_from_gives = { λ number result. result ≡ ok_or (schedule_of number) fault.Schedule };
+
+    fn try_from(number: u16) -> Result<Schedule, Fault> {
         match number {
-            4 => Some(Schedule::S4),
-            5 => Some(Schedule::S5),
-            23 => Some(Schedule::S23),
-            28 => Some(Schedule::S28),
-            29 => Some(Schedule::S29),
-            728 => Some(Schedule::S728),
-            730 => Some(Schedule::S730),
-            _ => None,
+            4 => Ok(Schedule::S4),
+            5 => Ok(Schedule::S5),
+            23 => Ok(Schedule::S23),
+            28 => Ok(Schedule::S28),
+            29 => Ok(Schedule::S29),
+            728 => Ok(Schedule::S728),
+            730 => Ok(Schedule::S730),
+            _ => Err(Fault::Schedule),
         }
     }
+}
 
+impl Schedule {
     // Its place in the rate tables.
     pub fn place(self) -> usize
         ensures { result ≡ place_of self }
@@ -45,21 +51,17 @@ impl Schedule {
     fn offers_voltage(self) -> bool
         ensures { result ≡ offers_voltage self }
     {
-        match self {
-            Schedule::S23 | Schedule::S28 | Schedule::S728 | Schedule::S730 => true,
-            Schedule::S4 | Schedule::S5 | Schedule::S29 => false,
-        }
+        matches!(
+            self,
+            Schedule::S23 | Schedule::S28 | Schedule::S728 | Schedule::S730
+        )
     }
 
     // Whether the flag for multi-family service is offered.
     fn offers_multi_family(self) -> bool
         ensures { result ≡ offers_multi_family self }
     {
-        match self {
-            Schedule::S4 | Schedule::S5 => true,
-            Schedule::S23 | Schedule::S28 | Schedule::S29 | Schedule::S728 | Schedule::S730 =>
-                false,
-        }
+        matches!(self, Schedule::S4 | Schedule::S5)
     }
 
     // Whether a flag is set that the schedule does not offer.
@@ -75,9 +77,7 @@ impl Schedule {
         ensures refused { result_err result ≡ check entry.now }
         ensures value { IfOk result (λ s. schedule_of entry.now.schedule ≡ Some s) }
     {
-        let Some(schedule) = Schedule::of(entry.schedule) else {
-            return Err(Fault::Schedule);
-        };
+        let schedule = Schedule::try_from(entry.schedule)?;
         if schedule.unoffered(entry) {
             return Err(Fault::Flag);
         }
