@@ -1,3 +1,4 @@
 pub mod Layout
+pub mod Rates
 pub mod Reply
 pub mod Schedules

@@ -7,10 +7,11 @@ use Rattle.answer.specs.Answers.{answer_line}
 use Rattle.answer.specs.declared.answer.Answer.TheVariants.{CardAccepted, Refused}
 use Rattle.oregon_card.specs.declared.card.Card.{Card}
 use Rattle.oregon_card.specs.Layout.{Values, values_in, card_tests}
+use Rattle.oregon_card.specs.Rates.{supply_rates, low_income_rates}
 
 -- A card in memory.
 abbrev pub values : Card → Values
-values card = record { cap = card.cap; supply = card.supply; low_income = card.low_income }
+values card = record { cap = card.cap; supply = supply_rates card.prices; low_income = low_income_rates card.prices }
 
 -- The answer line, by the first test that fits.
 abbrev pub reply_line : Option Fault → List ℕ

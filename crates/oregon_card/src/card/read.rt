@@ -1,5 +1,5 @@
 // Reading a card and answering its line.
-ghost use Rattle.std.specs.Prelude.{◌≡◌, ◌+◌, ◌*◌, ◌≤◌, true, map, length, IfOk};
+ghost use Rattle.std.specs.Prelude.{◌≡◌, ◌+◌, ◌*◌, ◌≤◌, true, map, ◌<◌, length, IfOk};
 ghost use Rattle.std.specs.List.{range_with_len};
 ghost use Rattle.std.specs.Result.{result_err, result_map_both};
 ghost use Rattle.frame.specs.Held.{held};
@@ -8,12 +8,15 @@ ghost use Rattle.frame.specs.Seal.{field};
 ghost use Rattle.reading.specs.First.{first};
 ghost use Rattle.frame.specs.Written.{Written};
 ghost use Rattle.oregon_card.specs.Layout.{values_in, rates_fit, card_tests};
+ghost use Rattle.oregon_card.specs.Rates.{prices_at as prices_in, supply_rates, low_income_rates};
 ghost use Rattle.oregon_card.specs.Reply.{values, card_line, card_on};
 
 use crate::card::Card;
+use crate::card::prices::Prices;
 use answer::Answer;
 use frame::{Field, Frame};
 use reading::Fault;
+use std::array;
 
 // The length of the answer line, and the card, or the refusal that was written.
 #[derive(Clone, Copy)]
@@ -60,25 +63,36 @@ impl Card {
         }
         Ok(Card {
             cap,
-            supply: rates(&frame, 7),
-            low_income: rates(&frame, 9),
+            prices: prices(&frame),
         })
     }
 }
 
-// The rates of the seven schedules, the first of which is at this byte. They lie four bytes apart.
-fn rates(frame: &Frame, first: usize) -> [u16; 7]
-    requires { (length (held frame.now) ≡ 35) × ((1 ≤ first) × (first ≤ 9)) }
-    ensures value { result ≡ map (λ i. field (held frame.now) (first + 4 * i) 2) (range_with_len 0 7) }
-    ensures fit { rates_fit result ≡ true }
+// The prices of the seven schedules.
+fn prices(frame: &Frame) -> [Prices; 7]
+    requires { length (held frame.now) ≡ 35 }
+    ensures value { result ≡ map (prices_in (held frame.now)) (range_with_len 0 7) }
+    ensures supply_fits { rates_fit (supply_rates result) ≡ true }
+    ensures low_income_fits { rates_fit (low_income_rates result) ≡ true }
 {
-    let mut rates = [0; 7];
-    for i in 0..7 {
-        let field = Field {
-            byte: first + 4 * i,
-            width: 2,
-        };
-        rates[i] = frame.number(field) as u16;
+    array::from_fn(|place| prices_at(frame, place))
+}
+
+// The prices of the schedule at a place. They lie four bytes apart.
+fn prices_at(frame: &Frame, place: usize) -> Prices
+    requires { (length (held frame.now) ≡ 35) × (place < 7) }
+    ensures { result ≡ prices_in (held frame.now) place }
+{
+    Prices {
+        supply: rate(frame, 7 + 4 * place),
+        low_income: rate(frame, 9 + 4 * place),
     }
-    rates
+}
+
+// The rate at a byte of the frame.
+fn rate(frame: &Frame, byte: usize) -> u16
+    requires { (1 ≤ byte) × (byte + 1 ≤ length (held frame.now)) }
+    ensures { result ≡ field (held frame.now) byte 2 }
+{
+    frame.number(Field { byte, width: 2 }) as u16
 }

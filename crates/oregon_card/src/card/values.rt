@@ -18,13 +18,13 @@ impl Card {
     pub fn supply(&self, schedule: Schedule) -> u16
         ensures { result ≡ slice_index (values self.now).supply (place schedule) }
     {
-        self.supply[schedule.place()]
+        self.prices[schedule.place()].supply
     }
 
     // A schedule's low-income rate, in thousandths of a cent per kWh.
     pub fn low_income(&self, schedule: Schedule) -> u16
         ensures { result ≡ slice_index (values self.now).low_income (place schedule) }
     {
-        self.low_income[schedule.place()]
+        self.prices[schedule.place()].low_income
     }
 }

@@ -3,6 +3,7 @@ use Rattle.std.proofs.lemmas.Result.{err_from_is_err_and}
 use Rattle.frame.specs.Held.{held}
 use Rattle.frame.proofs.Firsts.{line_stops, kind_stops, payload_stops, fields_decide}
 use Rattle.oregon_card.specs.Layout.{card_length, card_field_tests, values_in}
+use Rattle.oregon_card.specs.Rates.{supply_rates, low_income_rates}
 use Rattle.oregon_card.proofs.Cards.{no_card, card_named, cap_stops, cap_passes, same_values}
 use Rattle.oregon_card.proofs.card.Card.read.Goals as goal
 
@@ -57,5 +58,5 @@ returns c =
           fields_decide card_length card_field_tests c.args.line.now f read.value read.refused 32
           (card_named c.kind.result f c.kind.ensures c.if-kind-ne-KIND.false) _ c.in_ok-expect.ensures.refused
           (cap_passes c.number-cap.result f c.number-cap.ensures.value c.if-cap-gt99999999.false);
-      value = same_values _ _ _ _ _ _ c.number-cap.ensures.value c.rates.ensures.value c.rates-2.ensures.value ∙ ap values_in read.value;
+      value = same_values _ _ _ _ _ _ c.number-cap.ensures.value (ap supply_rates c.prices.ensures.value) (ap low_income_rates c.prices.ensures.value) ∙ ap values_in read.value;
     }
