@@ -34,16 +34,13 @@ pub fn take_card(line: &[u8], answer: &mut [u8]) -> Result<CardReply, Fault>
     ensures written { Written (card_line line.now) answer.old answer.new (result_map_both (λ reply. reply.length) (λ fault. fault) result) }
     ensures card { IfOk result (λ reply. result_map_both values (λ fault. fault) reply.card ≡ card_on line.now) }
 {
-    match Card::read(line) {
-        Ok(card) => Ok(CardReply {
-            length: Answer::CardAccepted.write(answer)?,
-            card: Ok(card),
-        }),
-        Err(fault) => Ok(CardReply {
-            length: Answer::Refused(fault).write(answer)?,
-            card: Err(fault),
-        }),
-    }
+    let card = Card::read(line);
+    let reply = match card {
+        Ok(_) => Answer::CardAccepted,
+        Err(fault) => Answer::Refused(fault),
+    };
+    let length = reply.write(answer)?;
+    Ok(CardReply { length, card })
 }
 
 impl Card {
