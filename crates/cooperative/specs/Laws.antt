@@ -13,7 +13,7 @@ use Rattle.book.proofs.Cents.{half_up_nothing, half_up_rises, half_up_bounded, r
 use Rattle.cooperative.specs.Schedule.{check, exact, power_factor, cooperative}
 
 -- The dearest power factor.
-power_factor_bounded : (e : Entry) → Limits e → power_factor e ≤ 10 ^ 15
+pub power_factor_bounded : (e : Entry) → Limits e → power_factor e ≤ 10 ^ 15
 power_factor_bounded e l =
     let p = mul-le (97 - e.power_factor) (625 * e.demand) 97 (625 * 99999) (omega arith) (omega arith) in
     omega arith

@@ -7,7 +7,7 @@ mod methods;
 const KEPT: usize = 129;
 
 // The first characters of a line.
-#[derive(Drop)]
+#[derive(Clone, Drop)]
 pub struct LineBuffer {
     bytes: ArrayVec<u8, KEPT>,
 }
