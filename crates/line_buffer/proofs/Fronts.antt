@@ -1,19 +1,19 @@
 -- The front of a line that is kept.
-use Rattle.std.proofs.Common.{◌≡◌, ℕ, ◌<◌, min, List, [], ◌∷◌, ◌++◌, length, take, Some, sym, ap, ◌∙◌, arith}
-use Rattle.std.proofs.lemmas.List.{take_all, take_at, length-take, length-append}
+use Rattle.std.proofs.Common.{◌≡◌, ℕ, ◌+◌, ◌<◌, min, List, ◌++◌, length, take, Some, sym, ap, ◌∙◌, arith}
+use Rattle.std.proofs.lemmas.List.{take_all, take_min, length-take}
+use Rattle.std.proofs.Math.Seq.{take-append-add}
 use Rattle.std.proofs.lemmas.Bool.Decides.{nat_tests}
 use Rattle.reading.specs.declared.fault.Fault.TheVariants.{LineLength}
 use Rattle.reading.specs.First.{first}
 use Rattle.frame.specs.Tests.{line_tests, length_test}
 use Rattle.line_buffer.specs.Received.{StandsFor}
 
--- One character more, where there is room.
-pub push_room : (kept : List ℕ) (b : ℕ) → length kept < 129 → kept ++ b ∷ [] ≡ take 129 (kept ++ b ∷ [])
-push_room kept b room = sym (take_all 129 (kept ++ b ∷ []) (omega (arith, length-append kept (b ∷ []))))
-
--- Where there is none.
-pub push_full : (kept : List ℕ) (b : ℕ) → length kept ≡ 129 → kept ≡ take 129 (kept ++ b ∷ [])
-push_full kept b full = sym (take_at kept (b ∷ []) 129 full)
+-- More characters, as far as there is room.
+pub front_more : (kept bytes : List ℕ) (room n : ℕ) → room + length kept ≡ 129 → n ≡ min room (length bytes) → kept ++ take n bytes ≡ take 129 (kept ++ bytes)
+front_more kept bytes room n left is =
+    let all : 129 ≡ length kept + room = omega arith in
+    let same : take n bytes ≡ take room bytes = ap (λ k. take k bytes) is ∙ take_min room bytes in
+    ap (λ l. kept ++ l) same ∙ sym (take-append-add kept bytes room) ∙ ap (λ k. take k (kept ++ bytes)) (sym all)
 
 too_long : (line : List ℕ) → 128 < length line → first (line_tests line) ≡ Some LineLength
 too_long line h = let t : length_test line ≡ Some LineLength = grind (arith, nat_tests) in rw t

@@ -16,13 +16,19 @@ impl LineBuffer {
     }
 
     // One character more. Those past the 129th are not kept.
-    #[tactic(auto, using(crate::proofs::Fronts::push_room, crate::proofs::Fronts::push_full))]
     pub fn push(&mut self, byte: u8)
         ensures { received self.new ≡ take 129 (received self.old ++ byte ∷ []) }
     {
-        if !self.bytes.is_full() {
-            self.bytes.push(byte);
-        }
+        self.extend(&[byte]);
+    }
+
+    // More characters. Those past the 129th are not kept.
+    #[tactic(auto, using(crate::proofs::Fronts::front_more))]
+    pub fn extend(&mut self, bytes: &[u8])
+        ensures { received self.new ≡ take 129 (received self.old ++ bytes.now) }
+    {
+        let room = self.bytes.remaining_capacity().min(bytes.len());
+        self.bytes.try_extend_from_slice(&bytes[..room]).unwrap();
     }
 
     // Begins another line.
