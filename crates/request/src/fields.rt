@@ -1,10 +1,10 @@
 // The fields of a request's frame.
-ghost use Rattle.std.specs.Prelude.{◌≡◌, ◌+◌, ◌*◌, ◌<◌, ◌≤◌, length, IfOk};
+ghost use Rattle.std.specs.Prelude.{◌≡◌, ◌+◌, ◌*◌, ◌<◌, ◌≤◌, [], ◌∷◌, length, None, IfOk};
 ghost use Rattle.std.specs.Result.{result_err};
 ghost use Rattle.frame.specs.Held.{held};
 ghost use Rattle.frame.specs.Seal.{field};
 ghost use Rattle.reading.specs.First.{or_else};
-ghost use Rattle.request.specs.Fields.{site_month_in, meter_in, earlier_in, entry_in, earlier_limits, reading_limits};
+ghost use Rattle.request.specs.Fields.{site_month_in, meter_in, earlier_in, entry_in, earlier_limits, month_limit, reading_limits};
 ghost use Rattle.request.specs.Tests.{limit_test, excess_test};
 
 use crate::limit::{Limit, check_limits};
@@ -34,17 +34,13 @@ const KVAR: Field = Field { byte: 30, width: 2 };
 
 const POWER_FACTOR: Field = Field { byte: 32, width: 1 };
 
-pub(crate) const MONTH_LIMITS: [Limit; 1] = [Limit {
+const MONTH_LIMIT: Limit = Limit {
     field: MONTH,
     most: 2_399,
-}];
+};
 
-// A reading's but for the earlier demands, in the order of their bytes.
-const READING_LIMITS: [Limit; 7] = [
-    Limit {
-        field: MONTH,
-        most: 2_399,
-    },
+// Those of a reading but for the month and the earlier demands, in the order of their bytes.
+const READING_LIMITS: [Limit; 6] = [
     Limit {
         field: FLAGS,
         most: 15,
@@ -71,7 +67,7 @@ const READING_LIMITS: [Limit; 7] = [
     },
 ];
 
-// The demand of an earlier month, counted from 0: the last field of a reading.
+// The demand of an earlier month, counted from 0. These are a reading's last fields.
 fn earlier_demand(i: usize) -> Field
     requires { i < 11 }
     ensures { result ≡ record { byte = 33 + 2 * i; width = 2 } }
@@ -82,6 +78,7 @@ fn earlier_demand(i: usize) -> Field
     }
 }
 
+// The limits of the earlier demands.
 fn earlier_limits() -> [Limit; 11]
     ensures { result ≡ earlier_limits }
 {
@@ -91,15 +88,17 @@ fn earlier_limits() -> [Limit; 11]
     })
 }
 
-// The site and the month.
-pub(crate) fn site_month(frame: &Frame) -> SiteMonth
+// The site and the month, or a refusal where the month is above its limit.
+pub(crate) fn site_month(frame: &Frame) -> Result<SiteMonth, Fault>
     requires { 8 ≤ length (held frame.now) }
-    ensures { result ≡ site_month_in (held frame.now) }
+    ensures refused { result_err result ≡ limit_test (month_limit ∷ []) (held frame.now) }
+    ensures value { IfOk result (λ at. at ≡ site_month_in (held frame.now)) }
 {
-    SiteMonth {
+    check_limits(frame, &[MONTH_LIMIT])?;
+    Ok(SiteMonth {
         site: frame.number(SITE),
         month: frame.number(MONTH) as u16,
-    }
+    })
 }
 
 // The meter.
@@ -110,11 +109,12 @@ pub(crate) fn meter(frame: &Frame) -> u16
     frame.number(METER) as u16
 }
 
-// A frame that carries a reading.
+// A frame that carries a reading, and whose month is within its limit.
 #[derive(Clone, Copy)]
 pub(crate) struct ReadingFrame<'a> {
     pub(crate) frame: &'a Frame,
     ghost whole: { length (held frame.now) ≡ 55 },
+    ghost month: { limit_test (month_limit ∷ []) (held frame.now) ≡ None },
 }
 
 impl<'a> ReadingFrame<'a> {

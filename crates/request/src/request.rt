@@ -10,7 +10,6 @@ ghost use Rattle.request.specs.Tests.{field_tests, request_tests};
 
 use crate::fields::{self, ReadingFrame};
 use crate::kind::RequestKind;
-use crate::limit::check_limits;
 use frame::Frame;
 use reading::{Fault, Reading, SiteMonth};
 
@@ -41,7 +40,7 @@ impl Request {
         ensures refused { result_err result ≡ first (field_tests (Some kind) (held frame.now)) }
         ensures value { IfOk result (λ q. asked q ≡ asked_in kind (held frame.now)) }
     {
-        let at = fields::site_month(frame);
+        let at = fields::site_month(frame)?;
         match kind {
             RequestKind::Post => Ok(Request::Post {
                 at,
@@ -51,21 +50,12 @@ impl Request {
                 at,
                 reading: ReadingFrame { frame }.reading()?,
             }),
-            RequestKind::Cancel => {
-                check_limits(frame, &fields::MONTH_LIMITS)?;
-                Ok(Request::Cancel {
-                    at,
-                    meter: fields::meter(frame),
-                })
-            }
-            RequestKind::Close => {
-                check_limits(frame, &fields::MONTH_LIMITS)?;
-                Ok(Request::Close { at })
-            }
-            RequestKind::Account => {
-                check_limits(frame, &fields::MONTH_LIMITS)?;
-                Ok(Request::Account { at })
-            }
+            RequestKind::Cancel => Ok(Request::Cancel {
+                at,
+                meter: fields::meter(frame),
+            }),
+            RequestKind::Close => Ok(Request::Close { at }),
+            RequestKind::Account => Ok(Request::Account { at }),
         }
     }
 }
