@@ -1,6 +1,6 @@
 // Requests that are accepted, with every field that they carry.
 use crate::table::{Tried, check_all};
-use reading::{Entry, SiteMonth};
+use reading::{Entry, Reading, SiteMonth};
 use request::Request;
 use std::process::Abort;
 
@@ -26,10 +26,7 @@ struct Load {
 #[derive(Clone, Copy)]
 struct Named {
     line: &'static [u8],
-    // The kind byte.
-    kind: u8,
-    at: SiteMonth,
-    meter: Option<u16>,
+    request: Request,
 }
 
 // Whole readings.
@@ -488,137 +485,121 @@ const NAMED: [Named; 11] = [
     // Cancel: every field 0.
     Named {
         line: b"02080000000000000000F6",
-        kind: 2,
-        at: SiteMonth { site: 0, month: 0 },
-        meter: Some(0),
+        request: Request::Cancel {
+            at: SiteMonth { site: 0, month: 0 },
+            meter: 0,
+        },
     },
     // Cancel: every field at its limit.
     Named {
         line: b"0208FFFFFFFF095FFFFF94",
-        kind: 2,
-        at: SiteMonth {
-            site: 4_294_967_295,
-            month: 2_399,
+        request: Request::Cancel {
+            at: SiteMonth {
+                site: 4_294_967_295,
+                month: 2_399,
+            },
+            meter: 65_535,
         },
-        meter: Some(65_535),
     },
     // Cancel: that of the worked month.
     Named {
         line: b"02080000000700FC0002F1",
-        kind: 2,
-        at: SiteMonth {
-            site: 7,
-            month: 252,
+        request: Request::Cancel {
+            at: SiteMonth {
+                site: 7,
+                month: 252,
+            },
+            meter: 2,
         },
-        meter: Some(2),
     },
     // Cancel: every byte different.
     Named {
         line: b"02080102030405060708D2",
-        kind: 2,
-        at: SiteMonth {
-            site: 16_909_060,
-            month: 1_286,
+        request: Request::Cancel {
+            at: SiteMonth {
+                site: 16_909_060,
+                month: 1_286,
+            },
+            meter: 1_800,
         },
-        meter: Some(1_800),
     },
     // Close: every field 0.
     Named {
         line: b"0406000000000000F6",
-        kind: 4,
-        at: SiteMonth { site: 0, month: 0 },
-        meter: None,
+        request: Request::Close {
+            at: SiteMonth { site: 0, month: 0 },
+        },
     },
     // Close: every field at its limit.
     Named {
         line: b"0406FFFFFFFF095F92",
-        kind: 4,
-        at: SiteMonth {
-            site: 4_294_967_295,
-            month: 2_399,
+        request: Request::Close {
+            at: SiteMonth {
+                site: 4_294_967_295,
+                month: 2_399,
+            },
         },
-        meter: None,
     },
     // Close: every byte different.
     Named {
         line: b"0406010203040506E1",
-        kind: 4,
-        at: SiteMonth {
-            site: 16_909_060,
-            month: 1_286,
+        request: Request::Close {
+            at: SiteMonth {
+                site: 16_909_060,
+                month: 1_286,
+            },
         },
-        meter: None,
     },
     // Account: every field 0.
     Named {
         line: b"0506000000000000F5",
-        kind: 5,
-        at: SiteMonth { site: 0, month: 0 },
-        meter: None,
+        request: Request::Account {
+            at: SiteMonth { site: 0, month: 0 },
+        },
     },
     // Account: every field at its limit.
     Named {
         line: b"0506FFFFFFFF095F91",
-        kind: 5,
-        at: SiteMonth {
-            site: 4_294_967_295,
-            month: 2_399,
+        request: Request::Account {
+            at: SiteMonth {
+                site: 4_294_967_295,
+                month: 2_399,
+            },
         },
-        meter: None,
     },
     // Account: site 7, month 252.
     Named {
         line: b"05060000000700FCF2",
-        kind: 5,
-        at: SiteMonth {
-            site: 7,
-            month: 252,
+        request: Request::Account {
+            at: SiteMonth {
+                site: 7,
+                month: 252,
+            },
         },
-        meter: None,
     },
     // Account: every byte different.
     Named {
         line: b"0506010203040506E0",
-        kind: 5,
-        at: SiteMonth {
-            site: 16_909_060,
-            month: 1_286,
+        request: Request::Account {
+            at: SiteMonth {
+                site: 16_909_060,
+                month: 1_286,
+            },
         },
-        meter: None,
     },
 ];
 
-// The fields in the order of their declaration.
-fn fields(entry: Entry) -> [u32; 10] {
-    [
-        u32::from(entry.meter),
-        u32::from(entry.schedule),
-        u32::from(entry.flags),
-        u32::from(entry.power_factor),
-        entry.kwh,
-        entry.off_hours,
-        entry.demand,
-        entry.peak_demand,
-        u32::from(entry.kvar),
-        u32::from(entry.load),
-    ]
-}
-
 // The line is a post, or a correction where it corrects, of this reading.
 fn check_reading(rt: &impl Abort, line: &[u8], corrects: bool, at: SiteMonth, entry: Entry) {
-    let Ok(request) = Request::read(line) else {
-        panic!(rt; "refused")
+    let Ok(reading) = Reading::try_from(entry) else {
+        panic!(rt; "unlawful")
     };
-    let (found_corrects, found_at, reading) = match request {
-        Request::Post { at, reading } => (false, at, reading.entry()),
-        Request::Correct { at, reading } => (true, at, reading.entry()),
-        _ => panic!(rt; "another kind"),
+    let request = if corrects {
+        Request::Correct { at, reading }
+    } else {
+        Request::Post { at, reading }
     };
-    assert_eq!(rt;
-        (found_corrects, found_at.site, found_at.month),
-        (corrects, at.site, at.month)
-    );
-    assert_eq!(rt; fields(reading), fields(entry));
+    assert_eq!(rt; Request::read(line), Ok(request));
 }
 
 impl Tried for Full {
@@ -640,19 +621,7 @@ impl Tried for Load {
 
 impl Tried for Named {
     fn passes(&self, rt: &impl Abort) {
-        let Ok(request) = Request::read(self.line) else {
-            panic!(rt; "refused")
-        };
-        let (kind, at, meter) = match request {
-            Request::Cancel { at, meter } => (2, at, Some(meter)),
-            Request::Close { at } => (4, at, None),
-            Request::Account { at } => (5, at, None),
-            _ => panic!(rt; "another kind"),
-        };
-        assert_eq!(rt;
-            (kind, at.site, at.month, meter),
-            (self.kind, self.at.site, self.at.month, self.meter)
-        );
+        assert_eq!(rt; Request::read(self.line), Ok(self.request));
     }
 }
 

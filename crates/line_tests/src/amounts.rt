@@ -491,13 +491,8 @@ const BEFORE: [i32; LINES] = [11, -12, 13, -14, 15, -16, 17, -18, 19, -20, 21, -
 
 // The answer's line stands in this buffer, and nothing past the line.
 fn check_line(rt: &impl Abort, answer: Answer, line: &[u8], buffer: &mut [u8]) {
-    match answer.write(buffer) {
-        Ok(length) => {
-            assert_eq!(rt; length, line.len());
-            check_written(rt, buffer, line)
-        }
-        Err(_) => panic!(rt; "not written"),
-    }
+    assert_eq!(rt; answer.write(buffer), Ok(line.len()));
+    check_written(rt, buffer, line);
 }
 
 impl Tried for Case {
@@ -508,10 +503,8 @@ impl Tried for Case {
         };
         check_line(rt, answer, self.line, &mut [UNTOUCHED; 200]);
         let mut amounts = BEFORE;
-        match read_amounts(self.line, &mut amounts) {
-            Ok(kind) => assert_eq!(rt; (kind.byte(), amounts), (self.kind.byte(), self.amounts)),
-            Err(_) => panic!(rt; "refused"),
-        }
+        assert_eq!(rt; read_amounts(self.line, &mut amounts), Ok(self.kind));
+        assert_eq!(rt; amounts, self.amounts);
     }
 }
 

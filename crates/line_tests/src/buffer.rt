@@ -8,7 +8,7 @@ pub(crate) const UNTOUCHED: u8 = b'.';
 pub(crate) fn check_written(rt: &impl Abort, buffer: &[u8], line: &[u8]) {
     assert!(rt; line.len() <= buffer.len());
     for (i, byte) in buffer.iter().enumerate() {
-        let expected = if i < line.len() { line[i] } else { UNTOUCHED };
+        let expected = line.get(i).copied().unwrap_or(UNTOUCHED);
         assert_eq!(rt; *byte, expected, "byte {i}");
     }
 }
