@@ -1,13 +1,10 @@
 -- Entries as bytes, back and forth.
-use Rattle.std.proofs.Common.{◌≡◌, ℕ, zero, suc, ◌+◌, ◌-◌, ◌*◌, ◌<◌, ◌≤◌, true, List, [], ◌∷◌, ◌++◌, length, get_or, take, drop, set, sym, refl, ap, ◌∙◌, ap₂, add-one, arith, rules}
-use borrow.Rule.Slice.PartMut.{put_mid}
+use Rattle.std.proofs.Common.{◌≡◌, ℕ, zero, suc, ◌*◌, ◌<◌, true, List, [], ◌∷◌, ◌++◌, length, get_or, take, drop, sym, refl, ap, ◌∙◌, ap₂, arith, rules}
 use Rattle.std.specs.List.{flat_map, AllByRecursion as All}
 use Rattle.std.proofs.ByRecursion.{All-take, All-drop}
-use Rattle.std.proofs.lemmas.List.{nil_from_length, length-take-le, length-drop, take_all, take-append-drop, take_more, take_more_set, drop-drop, flat_map_more}
-use Rattle.std.proofs.lemmas.Slice.{take-put_mid}
+use Rattle.std.proofs.lemmas.List.{nil_from_length, length-take-le, length-drop, take_all, take-append-drop}
 use Rattle.reading.specs.declared.entry.Entry.{Entry}
 use Rattle.record.specs.Holding.{lawful_reading}
-use Rattle.record.specs.Meters.{blank}
 use Rattle.record.specs.Rows.{is_blank}
 use Rattle.slot.specs.Layout.{entry_bytes}
 use Rattle.slot.specs.Reading.{entry_in, entries_in}
@@ -65,25 +62,3 @@ entries_again (suc n) bs long fit =
     let here = entry_again (take 26 bs) (length-take-le 26 bs (omega arith)) (All-take (λ b. b < 256) 26 bs fit) in
     let rest = entries_again n (drop 26 bs) (simp length-drop (omega arith)) (All-drop (λ b. b < 256) 26 bs fit) in
     both here rest ∙ take-append-drop 26 bs
-
-entries_more : (n : ℕ) (bs : List ℕ) → entries_in (suc n) bs ≡ entries_in n bs ++ entry_in (take 26 (drop (26 * n) bs)) ∷ []
-entries_more zero bs = refl
-entries_more (suc n) bs =
-    let on : 26 * suc n ≡ 26 + 26 * n = omega arith in
-    ap (λ es. entry_in (take 26 bs) ∷ es) (entries_more n (drop 26 bs) ∙ rw (on, ← drop-drop (26 * n) 26 bs))
-
--- One entry more is read.
-pub read_more : (entries : List Entry) (bs : List ℕ) (i : ℕ) (e : Entry) → i < length entries → e ≡ entry_in (take (26 * i + 26 - 26 * i) (drop (26 * i) bs)) → take i entries ≡ entries_in i bs → take (i + 1) (set entries i e) ≡ entries_in (i + 1) bs
-read_more entries bs i e h is so_far =
-    let width : 26 * i + 26 - 26 * i ≡ 26 = omega arith in
-    let next = is ∙ ap (λ n. entry_in (take n (drop (26 * i) bs))) width in
-    take_more_set entries i e h ∙ ap₂ (λ es f. es ++ f ∷ []) so_far next ∙ sym (entries_more i bs) ∙ ap (λ n. entries_in n bs) (sym (add-one i))
-
--- One entry more is written.
-pub write_more : (entries : List Entry) (bytes part : List ℕ) (i k : ℕ) → i < length entries → 26 * i ≤ length bytes → part ≡ entry_bytes (get_or entries i blank) → take (26 * i) bytes ≡ flat_map entry_bytes (take i entries) → take (26 * (i + 1)) (put_mid (26 * i) k bytes part) ≡ flat_map entry_bytes (take (i + 1) entries)
-write_more entries bytes part i k h room is so_far =
-    let long : length part ≡ 26 = ap length is in
-    take-put_mid (26 * i) k bytes part (26 * (i + 1)) (omega arith) room
-    ∙ both so_far is
-    ∙ flat_map_more entry_bytes [] (take i entries) (get_or entries i blank)
-    ∙ ap (flat_map entry_bytes) (sym (take_more entries i blank h))

@@ -1,3 +1,4 @@
+pub mod Arrays
 pub mod Fields
 pub mod Entries
 pub mod Zeros

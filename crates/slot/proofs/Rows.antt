@@ -7,7 +7,6 @@ use Rattle.std.proofs.lemmas.List.{append-nil, length-drop, take_at, drop_at, dr
 use Rattle.std.proofs.lemmas.Bool.{and_parts, and_from, or_cases, eq-eqb}
 use Rattle.std.proofs.lemmas.Bool.Decides.{nat_tests}
 use Rattle.reading.specs.declared.entry.Entry.{Entry}
-use Rattle.reading.specs.declared.site_month.SiteMonth.{SiteMonth}
 use Rattle.record.specs.Holding.{lawful_reading}
 use Rattle.record.specs.Rows.{is_blank, lawful_row, vacant, is_vacant, tidy}
 use Rattle.record.specs.States.{used}
@@ -15,7 +14,7 @@ use Rattle.record.specs.declared.row.Row.{Row}
 use Rattle.record.specs.declared.row.State.{State}
 use Rattle.record.specs.declared.row.State.TheVariants.{Empty, Open, Closed}
 use Rattle.slot.specs.Layout.{state_byte, header_bytes, entry_bytes, slot_bytes}
-use Rattle.slot.specs.Reading.{two_at, four_at, state_in, site_month_in, entries_in, row_in, lawful_slot, head_in}
+use Rattle.slot.specs.Reading.{state_in, entries_in, row_in, lawful_slot, head_in}
 use Rattle.slot.proofs.Fields.{two_back, four_back, two_again, four_again, bytes_from, bytes_from_is}
 use Rattle.slot.proofs.Zeros.{vacant_is}
 use Rattle.slot.proofs.Entries.{Narrow, narrow_lawful, narrow_blank, both, entries_back, entries_again}
@@ -96,12 +95,6 @@ slot_again slot long low fit =
     (both (four_again slot fit 2 (omega arith)) (two_again slot fit 6 (omega arith))) in
     let entries = entries_again 16 (drop 8 slot) (simp length-drop (omega arith)) (All-drop (λ b. b < 256) 8 slot fit) in
     both (header ∙ bytes_from_is 0 8 slot (omega arith)) entries ∙ take-append-drop 8 slot
-
--- A row from the parts that a slot has.
-pub row_made : (slot : List ℕ) (at : SiteMonth) (state : State) (entries : List Entry) → at.site ≡ four_at slot 2 → at.month ≡ two_at slot 6 → state ≡ state_in (get_or slot 0 0) → entries ≡ entries_in 16 (drop 8 slot) → ◌≡◌ {A = Row} (record { at = at; state = state; count = get_or slot 1 0; entries = entries }) (row_in slot)
-row_made slot at state entries a b c d =
-    let site_month : at ≡ site_month_in slot = ap₂ (λ (site month : ℕ). record { site = site; month = month }) a b in
-    rw (site_month, c, d)
 
 -- The site month that a lawful slot is found under is its row's.
 pub head_is : (slot : List ℕ) → lawful_slot slot ≡ true → head_in slot ≡ cond (used (row_in slot).state) (Some (row_in slot).at) None

@@ -1,5 +1,6 @@
 -- What a slot holds.
-use Rattle.std.specs.Prelude.{ℕ, zero, suc, ◌+◌, ◌*◌, Bool, cond, ◌&&◌, ◌||◌, List, [], ◌∷◌, length, take, drop, Some, None, Option, ◌==◌, nat_le, nat_lt, slice_index}
+use Rattle.std.specs.Prelude.{ℕ, ◌+◌, ◌*◌, Bool, cond, ◌&&◌, ◌||◌, List, map, length, drop, Some, None, Option, ◌==◌, nat_le, nat_lt, slice_index}
+use Rattle.std.specs.Simd.{first_chunks}
 use Rattle.reading.specs.declared.entry.Entry.{Entry}
 use Rattle.reading.specs.declared.site_month.SiteMonth.{SiteMonth}
 use Rattle.record.specs.Rows.{vacant, tidy}
@@ -34,8 +35,7 @@ entry_in bytes =
 
 -- So many entries, 26 bytes to each.
 abbrev pub entries_in : ℕ → List ℕ → List Entry
-entries_in zero bytes = []
-entries_in (suc n) bytes = entry_in (take 26 bytes) ∷ entries_in n (drop 26 bytes)
+entries_in n bytes = map entry_in (first_chunks 26 n bytes)
 
 -- The state that a byte up to 2 says.
 abbrev pub state_in : ℕ → State

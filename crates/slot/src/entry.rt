@@ -1,33 +1,27 @@
 // The entries of a slot, high bytes first.
-ghost use Rattle.std.specs.Prelude.{◌≡◌, ◌+◌, ◌≤◌, length};
-ghost use Rattle.std.specs.List.{flat_map};
+ghost use Rattle.std.specs.Prelude.{◌≡◌, ◌<◌, [], map, length, drop, slice_index_or};
 ghost use Rattle.slot.specs.Layout.{entry_bytes};
-ghost use Rattle.slot.specs.Reading.{two_at, four_at, entry_in, entries_in};
+ghost use Rattle.slot.specs.Reading.{entry_in, entries_in};
 
+use crate::header::HEADER;
+use crate::slot::SLOT;
 use reading::Entry;
-use record::{BLANK, READINGS};
+use record::READINGS;
+use std::array;
 
 // How many bytes an entry takes.
 const ENTRY: usize = 26;
 
-// How many bytes the entries take.
-const ENTRIES: usize = ENTRY * READINGS;
-
-// The bytes of the entries.
-pub(crate) fn entries_bytes(entries: &[Entry; READINGS]) -> [u8; ENTRIES]
-    ensures { result ≡ flat_map entry_bytes entries.now }
+// The bytes of each entry.
+pub(crate) fn entries_bytes(entries: &[Entry; READINGS]) -> [[u8; ENTRY]; READINGS]
+    ensures { result ≡ map entry_bytes entries.now }
 {
-    let mut bytes = [0; ENTRIES];
-    for (i, entry) in entries.iter().enumerate() {
-        let from = ENTRY * i;
-        bytes[from..from + ENTRY].copy_from_slice(&entry_bytes(entry));
-    }
-    bytes
+    entries.map(entry_bytes)
 }
 
 // The bytes of an entry.
-fn entry_bytes(entry: &Entry) -> [u8; ENTRY]
-    ensures { result ≡ entry_bytes entry.now }
+fn entry_bytes(entry: Entry) -> [u8; ENTRY]
+    ensures { result ≡ entry_bytes entry }
 {
     let [m0, m1] = entry.meter.to_be_bytes();
     let [s0, s1] = entry.schedule.to_be_bytes();
@@ -67,50 +61,61 @@ fn entry_bytes(entry: &Entry) -> [u8; ENTRY]
     ]
 }
 
-// The entries in their bytes.
-pub(crate) fn entries_in(bytes: &[u8]) -> [Entry; READINGS]
-    requires { length bytes.now ≡ 416 }
-    ensures { result ≡ entries_in 16 bytes.now }
+// The entries in a slot.
+pub(crate) fn entries_in(slot: &[u8; SLOT]) -> [Entry; READINGS]
+    ensures { result ≡ entries_in 16 (drop 8 slot.now) }
 {
-    let mut entries = [BLANK; READINGS];
-    for i in 0..READINGS {
-        let from = ENTRY * i;
-        entries[i] = entry_in(&bytes[from..from + ENTRY]);
-    }
-    entries
+    let (entries, _) = slot[HEADER..].as_chunks();
+    array::from_fn(
+        |i|
+            requires { i < length entries.now }
+            ensures { result ≡ entry_in (slice_index_or entries.entry.now i []) }
+        { entry_in(&entries[i]) },
+    )
 }
 
 // The entry in its bytes.
-fn entry_in(bytes: &[u8]) -> Entry
-    requires { length bytes.now ≡ 26 }
+fn entry_in(bytes: &[u8; ENTRY]) -> Entry
     ensures { result ≡ entry_in bytes.now }
 {
+    let [
+        m0,
+        m1,
+        s0,
+        s1,
+        flags,
+        power_factor,
+        k0,
+        k1,
+        k2,
+        k3,
+        o0,
+        o1,
+        o2,
+        o3,
+        d0,
+        d1,
+        d2,
+        d3,
+        p0,
+        p1,
+        p2,
+        p3,
+        v0,
+        v1,
+        l0,
+        l1,
+    ] = *bytes;
     Entry {
-        meter: two_at(bytes, 0),
-        schedule: two_at(bytes, 2),
-        flags: bytes[4],
-        power_factor: bytes[5],
-        kwh: four_at(bytes, 6),
-        off_hours: four_at(bytes, 10),
-        demand: four_at(bytes, 14),
-        peak_demand: four_at(bytes, 18),
-        kvar: two_at(bytes, 22),
-        load: two_at(bytes, 24),
+        meter: u16::from_be_bytes([m0, m1]),
+        schedule: u16::from_be_bytes([s0, s1]),
+        flags,
+        power_factor,
+        kwh: u32::from_be_bytes([k0, k1, k2, k3]),
+        off_hours: u32::from_be_bytes([o0, o1, o2, o3]),
+        demand: u32::from_be_bytes([d0, d1, d2, d3]),
+        peak_demand: u32::from_be_bytes([p0, p1, p2, p3]),
+        kvar: u16::from_be_bytes([v0, v1]),
+        load: u16::from_be_bytes([l0, l1]),
     }
-}
-
-// The number in the two bytes from one on.
-fn two_at(bytes: &[u8], at: usize) -> u16
-    requires { at + 2 ≤ length bytes.now }
-    ensures { result ≡ two_at bytes.now at }
-{
-    u16::from_be_bytes([bytes[at], bytes[at + 1]])
-}
-
-// The number in the four bytes from one on.
-fn four_at(bytes: &[u8], at: usize) -> u32
-    requires { at + 4 ≤ length bytes.now }
-    ensures { result ≡ four_at bytes.now at }
-{
-    u32::from_be_bytes([bytes[at], bytes[at + 1], bytes[at + 2], bytes[at + 3]])
 }

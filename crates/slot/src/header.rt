@@ -1,5 +1,5 @@
 // The header of a slot: the state, the count of readings and the site month.
-ghost use Rattle.std.specs.Prelude.{◌≡◌, ◌≤◌};
+ghost use Rattle.std.specs.Prelude.{◌≡◌, ◌<◌, ◌≤◌, MatchOption};
 ghost use Rattle.slot.specs.Layout.{state_byte, header_bytes};
 ghost use Rattle.slot.specs.Reading.{two_at, four_at, state_in, head_in};
 
@@ -9,12 +9,12 @@ use record::{Row, State};
 // How many bytes the header takes.
 pub(crate) const HEADER: usize = 8;
 
-// The state bytes, of which the last is the highest.
+// The state bytes.
 const EMPTY: u8 = 0;
 
 const OPEN: u8 = 1;
 
-pub(crate) const CLOSED: u8 = 2;
+const CLOSED: u8 = 2;
 
 // The site month of a slot in use, from its first eight bytes.
 pub fn head(slot: &[u8]) -> Option<SiteMonth>
@@ -51,7 +51,7 @@ pub(crate) fn header_bytes(row: &Row) -> [u8; HEADER]
     [state_byte(row.state), row.count as u8, a, b, c, d, e, f]
 }
 
-// The state's byte.
+// The state's byte. Neither type is of this crate, so this and its inverse can't be a From and a TryFrom.
 fn state_byte(state: State) -> u8
     ensures { result ≡ state_byte state }
 {
@@ -62,13 +62,14 @@ fn state_byte(state: State) -> u8
     }
 }
 
-// The state that a byte up to the highest is.
-pub(crate) fn state_in(byte: u8) -> State
-    ensures { result ≡ state_in byte }
+// The state that a byte is, if it is one.
+pub(crate) fn state_in(byte: u8) -> Option<State>
+    ensures { MatchOption result (2 < byte) (λ state. (byte ≤ 2) × (state ≡ state_in byte)) }
 {
     match byte {
-        EMPTY => State::Empty,
-        OPEN => State::Open,
-        _ => State::Closed,
+        EMPTY => Some(State::Empty),
+        OPEN => Some(State::Open),
+        CLOSED => Some(State::Closed),
+        _ => None,
     }
 }

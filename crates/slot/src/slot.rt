@@ -1,19 +1,33 @@
 // A slot: the header, then sixteen entries.
-ghost use Rattle.std.specs.Prelude.{◌≡◌, true, length, is_ok, IfOk, nat_eq};
+ghost use Rattle.std.specs.Prelude.{◌≡◌, true, is_ok, IfOk, nat_eq, nat_le, slice_index};
 ghost use Rattle.std.specs.List.{list_all};
 ghost use Rattle.slot.specs.Layout.{slot_bytes};
 ghost use Rattle.slot.specs.Reading.{row_in, lawful_slot, row_of};
 
 use crate::entry::{entries_bytes, entries_in};
-use crate::header::{CLOSED, HEADER, header_bytes, site_month, state_in};
+use crate::header::{HEADER, header_bytes, site_month, state_in};
+use reading::Unlawful;
 use record::{Record, Row};
+use std::array::TryFromSliceError;
 
 // How many bytes a slot takes.
 pub const SLOT: usize = 424;
 
 // The bytes are not those of a slot: neither all zero nor what the encoder writes for a record.
-#[derive(Clone, Copy)]
+#[derive(Clone, Copy, Debug, PartialEq, Eq)]
 pub struct BadSlot;
+
+impl From<Unlawful> for BadSlot {
+    fn from(_: Unlawful) -> BadSlot {
+        BadSlot
+    }
+}
+
+impl From<TryFromSliceError> for BadSlot {
+    fn from(_: TryFromSliceError) -> BadSlot {
+        BadSlot
+    }
+}
 
 // The slot of a record.
 pub fn encode(kept: &Record) -> [u8; SLOT]
@@ -23,8 +37,8 @@ pub fn encode(kept: &Record) -> [u8; SLOT]
 {
     let row = kept.row();
     let mut slot = [0; SLOT];
-    slot[0..HEADER].copy_from_slice(&header_bytes(row));
-    slot[HEADER..SLOT].copy_from_slice(&entries_bytes(&row.entries));
+    slot[..HEADER].copy_from_slice(&header_bytes(row));
+    slot[HEADER..].copy_from_slice(entries_bytes(&row.entries).as_flattened());
     slot
 }
 
@@ -34,42 +48,30 @@ pub fn decode(slot: &[u8]) -> Result<Option<Record>, BadSlot>
     ensures value { IfOk result (λ found. row_of found ≡ row_in slot.now) }
     ensures spelling { IfOk result (λ found. slot.now ≡ slot_bytes (row_of found)) }
 {
-    if slot.len() != SLOT || slot[0] > CLOSED {
-        return Err(BadSlot);
-    }
+    let slot = <&[u8; SLOT]>::try_from(slot)?;
     if all_zero(slot) {
         return Ok(None);
     }
-    match Record::check(row_in(slot)) {
-        Some(kept) => Ok(Some(kept)),
-        None => Err(BadSlot),
-    }
+    Ok(Some(Record::try_from(row_in(slot)?)?))
 }
 
 // Whether each byte is zero.
 fn all_zero(bytes: &[u8]) -> bool
     ensures { result ≡ list_all (λ b. nat_eq b 0) bytes.now }
 {
-    for b in bytes {
-        if *b != 0 {
-            return false;
-        }
-    }
-    true
+    bytes.iter().all(|b| *b == 0)
 }
 
-// The row in a slot.
-fn row_in(slot: &[u8]) -> Row
-    requires { length slot.now ≡ 424 }
-    ensures { result ≡ row_in slot.now }
+// The row in a slot, unless there is no such state.
+fn row_in(slot: &[u8; SLOT]) -> Result<Row, BadSlot>
+    ensures refused { is_ok result ≡ nat_le (slice_index slot.now 0) 2 }
+    ensures value { IfOk result (λ row. row ≡ row_in slot.now) }
 {
-    let [state, count, a, b, c, d, e, f, entries @ ..] = slot else {
-        unreachable()
-    };
-    Row {
-        at: site_month([*a, *b, *c, *d, *e, *f]),
-        state: state_in(*state),
-        count: *count as usize,
-        entries: entries_in(entries),
-    }
+    let [state, count, a, b, c, d, e, f, ..] = *slot;
+    Ok(Row {
+        at: site_month([a, b, c, d, e, f]),
+        state: state_in(state).ok_or(BadSlot)?,
+        count: usize::from(count),
+        entries: entries_in(slot),
+    })
 }

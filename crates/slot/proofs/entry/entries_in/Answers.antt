@@ -1,16 +1,15 @@
-use Rattle.std.proofs.Common.{◌≡◌, sym, ap, ◌∙◌, arith}
-use Rattle.std.proofs.lemmas.List.{length-set, take_all}
-use Rattle.slot.specs.Reading.{entries_in}
-use Rattle.slot.proofs.Entries.{read_more}
+use Rattle.std.proofs.Common.{◌≡◌, ℕ, ◌/◌, List, [], length, get_or, take, drop, ap, ◌∙◌, arith, rules}
+use Rattle.std.specs.Simd.{first_chunks}
+use Rattle.std.proofs.lemmas.List.{length-drop, take_all}
+use Rattle.slot.specs.Reading.{entry_in}
+use Rattle.slot.proofs.Arrays.{made}
 use Rattle.slot.proofs.entry.entries_in.Goals as goal
-
-pub loop-i-preserved : goal.loop-i-preserved
-loop-i-preserved c = (
-  length-set c.loop-i.entries c.loop-i.i _ ∙ c.loop-i.invariant.0,
-  read_more c.loop-i.entries c.args.bytes.now c.loop-i.i _ (omega arith) c.entry_in.ensures c.loop-i.invariant.1,
-)
 
 pub returns : goal.returns
 returns c =
-    let end : c.loop-i.i ≡ 16 = omega arith in
-    sym (take_all c.loop-i.i c.loop-i.entries (omega arith)) ∙ c.loop-i.invariant.1 ∙ ap (λ n. entries_in n c.args.bytes.now) end
+    let bytes = drop 8 c.args.slot.now in
+    let long : length bytes ≡ 416 = simp length-drop (omega arith) in
+    let rest : take 416 bytes ≡ bytes = take_all 416 bytes (omega arith) in
+    let chunks = λ (bs : List ℕ). first_chunks 26 (length bs / 26) bs in
+    let entries : c.as_chunks.result.0.now ≡ first_chunks 26 16 bytes = c.as_chunks.ensures.front ∙ ap chunks rest ∙ ap (λ n. first_chunks 26 (n / 26) bytes) long in
+    made _ (λ i. entry_in (get_or (first_chunks 26 16 bytes) i [])) _ _ 16 c.from_fn.ensures.items (λ i y q h k. (search rules, k.met.1 ∙ ap (λ es. entry_in (get_or es i [])) entries))

@@ -1,6 +1,0 @@
-use Rattle.std.proofs.Common.{◌≡◌, length, take}
-use Rattle.slot.specs.Reading.{entries_in}
-use Rattle.slot.proofs.entry.entries_in.Given as goal
-
-abbrev pub invariant-loop-i : goal.invariant-loop-i
-invariant-loop-i l = (length l.entries ≡ 16) × (take l.i l.entries ≡ entries_in l.i l.bytes)
