@@ -25,11 +25,10 @@ use Rattle.oregon.specs.Products.{three_bounded}
 use Rattle.oregon.specs.Tables.{kw_rates, kwh_rates, floors_bounded}
 
 -- A reading that the book serves weighs what its schedule says.
-pub weight_served : (card : Values) (e entry : Entry) (line w : ℕ) (s : Schedule) → e ≡ entry → None ≡ check e → schedule_of e.schedule ≡ Some s → w ≡ metered card s e line → w ≡ weight card entry line
-weight_served card e entry line w s same fine is h =
+pub weight_served : (card : Values) (e : Entry) (line w : ℕ) (s : Schedule) → None ≡ check e → schedule_of e.schedule ≡ Some s → w ≡ metered card s e line → w ≡ weight card e line
+weight_served card e line w s fine is h =
     h ∙ ap (λ o. on_schedule o (λ s. metered card s e line)) (sym is)
     ∙ ap (λ o. cond (is_some o) 0 (on_schedule (schedule_of e.schedule) (λ s. metered card s e line))) fine
-    ∙ ap (λ x. weight card x line) same
 
 factor_bounded : (e : Entry) → factor e ≤ 10157
 factor_bounded e = grind (arith, nat_tests)

@@ -5,5 +5,6 @@ mod charges;
 mod oregon;
 mod quantity;
 mod rates;
+mod service;
 
 pub use oregon::Oregon;

@@ -1,18 +1,14 @@
 // Oregon's book.
 ghost use Rattle.std.specs.Prelude.{◌≡◌, ◌^◌, ◌≤◌};
-ghost use Rattle.reading.specs.Limits.{Limits};
 ghost use Rattle.oregon_card.specs.Reply.{values};
 ghost use Rattle.oregon.specs.Sheet.{exact as exact_on, metered as metered_on, oregon_sheet};
 ghost use Rattle.oregon.specs.Laws.{keeps};
 
-use crate::charges::by_kwh;
-use crate::quantity::per_kwh;
-use crate::{charges, rates};
-use book::{Book, Sense, half_up, rounded};
-use oregon_card::{Card, Schedule};
-use reading::{Entry, Fault, Reading};
-
-const CENT: u64 = 10_000_000;
+use crate::rates;
+use crate::service::Service;
+use book::{Book, CENT, Sense, half_up, rounded};
+use oregon_card::Card;
+use reading::{Fault, Reading};
 
 // The sheets, with the values of a card.
 #[derive(Clone, Copy)]
@@ -34,14 +30,13 @@ impl Book for Oregon {
     }
 
     fn check(&self, reading: &Reading) -> Result<(), Fault> {
-        Schedule::serving(&reading.entry())?;
+        Service::of(reading)?;
         Ok(())
     }
 
     fn weight(&self, reading: &Reading, line: usize) -> u64 {
-        let entry = reading.entry();
-        match Schedule::serving(&entry) {
-            Ok(schedule) => metered(&self.card, schedule, &entry, line),
+        match Service::of(reading) {
+            Ok(service) => self.metered(&service, line),
             Err(_) => 0,
         }
     }
@@ -56,35 +51,35 @@ impl Book for Oregon {
     }
 }
 
-// What a reading weighs on a statement line: lines 0 to 8 are rounded at the meter.
-fn metered(card: &Card, schedule: Schedule, entry: &Entry, line: usize) -> u64
-    requires { Limits entry.now }
-    ensures { result ≡ metered_on (values card.now) schedule entry.now line }
-{
-    let units = exact(card, schedule, entry, line);
-    if line < 9 { rounded(units) } else { units }
-}
+impl Oregon {
+    // What a reading weighs on a statement line: lines 0 to 8 are rounded at the meter.
+    fn metered(&self, service: &Service, line: usize) -> u64
+        ensures { result ≡ metered_on (values self.now.card) service.now.schedule service.now.entry line }
+    {
+        let units = self.exact(service, line);
+        if line < 9 { rounded(units) } else { units }
+    }
 
-// What a reading costs on a statement line, in units, before it is rounded.
-fn exact(card: &Card, schedule: Schedule, entry: &Entry, line: usize) -> u64
-    requires { Limits entry.now }
-    ensures value { result ≡ exact_on (values card.now) schedule entry.now line }
-    ensures bound { result ≤ 10 ^ 18 }
-{
-    match line {
-        0 => u64::from(charges::basic(schedule, entry)) * CENT,
-        1 => charges::load_and_demand(schedule, entry),
-        2 => charges::energy(schedule, entry),
-        3 => charges::credit(schedule, entry),
-        4 => charges::reactive(schedule, entry),
-        5 => charges::transmission(schedule, entry),
-        6 => by_kwh(rates::USAGE, schedule, entry),
-        7 => charges::floor(schedule, entry) * CENT,
-        8 => per_kwh(card.supply(schedule), entry.kwh, entry),
-        9 => by_kwh(rates::SCHEDULE_203, schedule, entry),
-        10 => by_kwh(rates::SCHEDULE_204, schedule, entry),
-        11 => by_kwh(rates::SCHEDULE_207, schedule, entry),
-        12 => per_kwh(card.low_income(schedule), entry.kwh, entry),
-        _ => 0,
+    // What a reading costs on a statement line, in units, before it is rounded.
+    fn exact(&self, service: &Service, line: usize) -> u64
+        ensures value { result ≡ exact_on (values self.now.card) service.now.schedule service.now.entry line }
+        ensures bound { result ≤ 10 ^ 18 }
+    {
+        match line {
+            0 => u64::from(service.basic()) * CENT,
+            1 => service.load_and_demand(),
+            2 => service.energy(),
+            3 => service.credit(),
+            4 => service.reactive(),
+            5 => service.transmission(),
+            6 => service.by_kwh(rates::USAGE),
+            7 => service.floor() * CENT,
+            8 => service.per_kwh(self.card.supply(service.schedule), service.entry.kwh),
+            9 => service.by_kwh(rates::SCHEDULE_203),
+            10 => service.by_kwh(rates::SCHEDULE_204),
+            11 => service.by_kwh(rates::SCHEDULE_207),
+            12 => service.per_kwh(self.card.low_income(service.schedule), service.entry.kwh),
+            _ => 0,
+        }
     }
 }

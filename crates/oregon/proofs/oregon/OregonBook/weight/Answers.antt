@@ -1,8 +1,12 @@
+use Rattle.std.proofs.Common.{ap, ◌∙◌}
 use Rattle.oregon_card.specs.Reply.{values}
 use Rattle.oregon.specs.Laws.{weight_served}
+use Rattle.oregon.specs.Sheet.{metered}
 use Rattle.oregon.proofs.oregon.OregonBook.weight.Goals as goal
 
 pub returns-in-Ok : goal.returns-in-Ok
 returns-in-Ok c =
-    weight_served (values c.args.self.now.card) c.entry-entry.result c.args.reading.now.entry c.args.line c.metered.result
-    c.in-Ok.schedule c.entry-entry.ensures.value c.in-Ok.ensures.refused c.in-Ok.ensures.value c.metered.ensures
+    let card = values c.args.self.now.card in
+    let served = c.in-Ok.ensures in
+    weight_served card _ c.args.line _ _ served.refused served.schedule
+    (c.metered.ensures ∙ ap (λ e. metered card c.in-Ok.service.schedule e c.args.line) served.entry)
