@@ -1,1 +1,2 @@
 pub mod Cents
+pub mod Lines

@@ -1,5 +1,5 @@
 -- The cooperative's book keeps the laws of a book.
-use Rattle.std.specs.Prelude.{◌≡◌, ℕ, zero, suc, ◌-◌, ◌*◌, ◌^◌, ◌≤◌, Bool, true, false, cond, is_some, Some, Option}
+use Rattle.std.specs.Prelude.{◌≡◌, ℕ, ◌-◌, ◌*◌, ◌^◌, ◌≤◌, Bool, true, false, cond, [], ◌∷◌, is_some, Some, Option}
 use Rattle.std.proofs.Common.{arith}
 use Rattle.std.proofs.lemmas.Nat.{mul-le}
 use Rattle.std.proofs.lemmas.Bool.Decides.{nat_tests}
@@ -10,7 +10,8 @@ use Rattle.reading.proofs.Within.{limits}
 use Rattle.book.specs.Meaning.{Lawful}
 use Rattle.book.specs.Money.{rounded}
 use Rattle.book.proofs.Cents.{half_up_nothing, half_up_rises, half_up_bounded, rounded_bounded}
-use Rattle.cooperative.specs.Schedule.{check, exact, power_factor, cooperative}
+use Rattle.book.proofs.Lines.{line_bounded}
+use Rattle.cooperative.specs.Schedule.{check, basic, demand, energy, credit, power_factor, exact, cooperative}
 
 -- The dearest power factor.
 pub power_factor_bounded : (e : Entry) → Limits e → power_factor e ≤ 10 ^ 15
@@ -19,12 +20,9 @@ power_factor_bounded e l =
     omega arith
 
 exact_bounded : (e : Entry) → Limits e → (line : ℕ) → exact e line ≤ 10 ^ 15
-exact_bounded e l zero = omega arith
-exact_bounded e l (suc zero) = omega arith
-exact_bounded e l (suc (suc zero)) = omega arith
-exact_bounded e l (suc (suc (suc zero))) = omega arith
-exact_bounded e l (suc (suc (suc (suc zero)))) = power_factor_bounded e l
-exact_bounded e l (suc (suc (suc (suc (suc line))))) = omega arith
+exact_bounded e l line =
+    line_bounded (10 ^ 15) (basic ∷ demand e ∷ energy e ∷ credit e ∷ power_factor e ∷ []) line
+    (omega arith, (omega arith, (omega arith, (omega arith, (power_factor_bounded e l, tt)))))
 
 unless : (b : Bool) (n : ℕ) → n ≤ 10 ^ 15 → cond b 0 n ≤ 10 ^ 15
 unless true n h = omega arith

@@ -31,6 +31,7 @@ impl Book for Cooperative {
 
     ghost lawful = { λ book. keeps };
 
+    // Only line 3 is a credit, by this book's own sheet: a default in the trait would be a promise of every book.
     fn sense(&self, line: usize) -> Sense {
         if line == 3 {
             Sense::Credit

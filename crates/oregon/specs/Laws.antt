@@ -15,10 +15,11 @@ use Rattle.reading.proofs.Within.{limits}
 use Rattle.book.specs.Meaning.{Lawful}
 use Rattle.book.specs.Money.{cent, half_up, rounded}
 use Rattle.book.proofs.Cents.{half_up_nothing, half_up_rises, half_up_bounded, rounded_bounded}
+use Rattle.book.proofs.Lines.{line_bounded}
 use Rattle.oregon_card.specs.Layout.{Values, rates_fit}
 use Rattle.oregon.specs.Rates.{energy_rates, transmission_rates, transmission_kw_rates, usage_rates, demand_rates, reactive_rates, rates_203, rates_204, rates_207, band_28, load_28, band_730, load_730}
 use Rattle.oregon_card.specs.Schedules.{schedule_of, place, unoffered, refusal, check}
-use Rattle.oregon.specs.Sheet.{rate, factor, per_kwh, per_kw, kw, billed, basic, three_phase_demand, over_15, load_demand, has_block, block, energy, credit, reactive, transmission, floor, at_card, rider, exact, metered, on_schedule, weight, oregon_sheet}
+use Rattle.oregon.specs.Sheet.{rate, factor, per_kwh, per_kw, kw, billed, basic, three_phase_demand, over_15, load_demand, has_block, block, energy, credit, reactive, transmission, floor, at_card, rider, lines, exact, metered, on_schedule, weight, oregon_sheet}
 use Rattle.oregon_card.specs.declared.schedule.Schedule.{Schedule}
 use Rattle.oregon_card.specs.declared.schedule.Schedule.TheVariants.{S4, S5, S23, S28, S29, S728, S730}
 use Rattle.oregon.specs.Products.{three_bounded}
@@ -133,20 +134,44 @@ own_fault (Some s) e f h = flag_only (unoffered s e) f h
 
 module _ (card : Values) (supply : rates_fit card.supply ≡ true) (low : rates_fit card.low_income ≡ true) where
   exact_bounded : (s : Schedule) (e : Entry) → Limits e → (line : ℕ) → exact card s e line ≤ 10 ^ 15
-  exact_bounded s e l zero = omega (arith, basic_bounded s e)
-  exact_bounded s e l (suc zero) = load_demand_bounded s e l
-  exact_bounded s e l (suc (suc zero)) = energy_bounded s e l
-  exact_bounded s e l (suc (suc (suc zero))) = credit_bounded s e l
-  exact_bounded s e l (suc (suc (suc (suc zero)))) = reactive_bounded s e l
-  exact_bounded s e l (suc (suc (suc (suc (suc zero))))) = transmission_bounded s e l
-  exact_bounded s e l (suc (suc (suc (suc (suc (suc zero)))))) = rider_bounded usage_rates s e l (kwh_rates.1.1.0 (place s) e)
-  exact_bounded s e l (suc (suc (suc (suc (suc (suc (suc zero))))))) = floor_bounded s e l
-  exact_bounded s e l (suc (suc (suc (suc (suc (suc (suc (suc zero)))))))) = at_card_bounded card.supply s e l supply
-  exact_bounded s e l (suc (suc (suc (suc (suc (suc (suc (suc (suc zero))))))))) = rider_bounded rates_203 s e l (kwh_rates.1.1.1.0 (place s) e)
-  exact_bounded s e l (suc (suc (suc (suc (suc (suc (suc (suc (suc (suc zero)))))))))) = rider_bounded rates_204 s e l (kwh_rates.1.1.1.1.0 (place s) e)
-  exact_bounded s e l (suc (suc (suc (suc (suc (suc (suc (suc (suc (suc (suc zero))))))))))) = rider_bounded rates_207 s e l (kwh_rates.1.1.1.1.1.0 (place s) e)
-  exact_bounded s e l (suc (suc (suc (suc (suc (suc (suc (suc (suc (suc (suc (suc zero)))))))))))) = at_card_bounded card.low_income s e l low
-  exact_bounded s e l (suc (suc (suc (suc (suc (suc (suc (suc (suc (suc (suc (suc (suc line))))))))))))) = omega arith
+  exact_bounded s e l line =
+      line_bounded (10 ^ 15) (lines card s e) line (
+        omega (arith, basic_bounded s e),
+        (
+          load_demand_bounded s e l,
+          (
+            energy_bounded s e l,
+            (
+              credit_bounded s e l,
+              (
+                reactive_bounded s e l,
+                (
+                  transmission_bounded s e l,
+                  (
+                    rider_bounded usage_rates s e l (kwh_rates.1.1.0 (place s) e),
+                    (
+                      floor_bounded s e l,
+                      (
+                        at_card_bounded card.supply s e l supply,
+                        (
+                          rider_bounded rates_203 s e l (kwh_rates.1.1.1.0 (place s) e),
+                          (
+                            rider_bounded rates_204 s e l (kwh_rates.1.1.1.1.0 (place s) e),
+                            (
+                              rider_bounded rates_207 s e l (kwh_rates.1.1.1.1.1.0 (place s) e),
+                              (at_card_bounded card.low_income s e l low, tt),
+                            ),
+                          ),
+                        ),
+                      ),
+                    ),
+                  ),
+                ),
+              ),
+            ),
+          ),
+        ),
+      )
 
   metered_bounded : (s : Schedule) (e : Entry) → Limits e → (line : ℕ) → metered card s e line ≤ 10 ^ 15
   metered_bounded s e l line =

@@ -111,10 +111,9 @@ abbrev pub rider : List (List ℕ) → Schedule → Entry → ℕ
 rider rates s e = per_kwh (rate rates (place s) e) e.kwh e
 
 -- The lines in order, exactly.
-abbrev pub exact : Values → Schedule → Entry → ℕ → ℕ
-exact card s e line =
-    get_or
-    (basic s e * cent
+abbrev pub lines : Values → Schedule → Entry → List ℕ
+lines card s e =
+    basic s e * cent
     ∷ load_demand s e
     ∷ energy s e
     ∷ credit s e
@@ -127,8 +126,10 @@ exact card s e line =
     ∷ rider rates_204 s e
     ∷ rider rates_207 s e
     ∷ at_card card.low_income s e
-    ∷ [])
-    line 0
+    ∷ []
+
+abbrev pub exact : Values → Schedule → Entry → ℕ → ℕ
+exact card s e line = get_or (lines card s e) line 0
 
 -- Lines 0 to 8 round half up to a cent at each meter; the others round when the record settles.
 abbrev pub metered : Values → Schedule → Entry → ℕ → ℕ

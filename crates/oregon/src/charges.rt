@@ -68,7 +68,7 @@ impl Service {
         (u64::from(kw) * u64::from(self.factor())).saturating_sub(150_000)
     }
 
-    // Load size and demand: each kW over 15.
+    // Load size and demand on 23: each kW over 15.
     fn small_load(&self) -> u64
         ensures value { result ≡ (140 * over_15 self.now.entry.load self.now.entry + rate_in demand_rates (place_of self.now.schedule) self.now.entry * over_15 (billed_on self.now.schedule self.now.entry) self.now.entry) * 1000 }
         ensures bound { result ≤ 10 ^ 17 }

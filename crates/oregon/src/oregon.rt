@@ -21,6 +21,7 @@ impl Book for Oregon {
 
     ghost lawful = { λ book. keeps (values book.card) book.card.supply_fits book.card.low_income_fits };
 
+    // Only line 3 is a credit, by this book's own sheet: a default in the trait would be a promise of every book.
     fn sense(&self, line: usize) -> Sense {
         if line == 3 {
             Sense::Credit
