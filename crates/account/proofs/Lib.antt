@@ -9,6 +9,7 @@ pub mod Telescope
 pub mod Signs
 pub mod Stand
 pub mod Served
+pub mod Edits
 pub mod Requests
 pub mod Verdicts
 pub mod Worked

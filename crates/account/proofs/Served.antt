@@ -1,5 +1,5 @@
 -- An exchange as a call makes it: from what the store's calls leave, and from the line that is written.
-use Rattle.std.proofs.Common.{◌≡◌, ℕ, Bool, true, List, length, take, drop, Ok, Err, Result, sym, ap, ◌∙◌, arith}
+use Rattle.std.proofs.Common.{◌≡◌, ℕ, Bool, true, List, length, take, drop, Ok, Err, Result, MatchResult, sym, ap, ◌∙◌, arith}
 use Rattle.std.proofs.lemmas.List.{take_at}
 use Rattle.std.proofs.lemmas.Bool.Decides.{nat_tests}
 use Rattle.reading.specs.declared.entry.Entry.{Entry}
@@ -49,14 +49,12 @@ removed_without s at t o removed =
 pub altered_to : (b : book.Meaning) (held : List Holding) → once held ≡ true → (at : SiteMonth) (q : Asked) (es : List Entry) → change q held ≡ left_with at es held → altered b held at q ≡ differences b (readings_at at held) es
 altered_to b held o at q es is = ap (λ fs. differences b (readings_at at held) fs) (ap (readings_at at) is ∙ readings_with at held o es)
 
--- What is answered where a call has an outcome.
-pub answer_made : (b : book.Meaning) (held : List Holding) (v : Result Asked Fault) (a : Answer) → Ok a ≡ responded b held v → a ≡ answer_of b held v
-answer_made b held (Ok q) a is = cc
-answer_made b held (Err fault) a is = cc
-
-pub fault_answered : (b : book.Meaning) (held : List Holding) (v : Result Asked Fault) (fault : Fault) → Err fault ≡ responded b held v → Refused fault ≡ answer_of b held v
-fault_answered b held (Ok q) fault is = cc
-fault_answered b held (Err other) fault is = cc
+-- What is answered where a call has an outcome, a refusal where it has none.
+pub answer_made : (b : book.Meaning) (held : List Holding) (v : Result Asked Fault) (r : Result Answer Fault) (a : Answer) → MatchResult r (λ x. a ≡ x) (λ fault. a ≡ Refused fault) → r ≡ responded b held v → a ≡ answer_of b held v
+answer_made b held (Ok q) (Ok x) a made is = cc
+answer_made b held (Ok q) (Err fault) a made is = cc
+answer_made b held (Err fault) (Ok x) a made is = cc
+answer_made b held (Err fault) (Err other) a made is = cc
 
 -- What is heard of an answer that was written.
 pub heard_written : (a : Answer) (before now : List ℕ) (r : Result ℕ Fault) → Written (answer_line a) before now r → heard r now ≡ written (buffer_test (length before)) a

@@ -1,5 +1,5 @@
 -- Weights of readings: their sums, what they settle to, and what an edit makes of them.
-use Rattle.std.proofs.Common.{◌≡◌, ℕ, ◌+◌, ◌^◌, ◌<◌, ◌≤◌, true, leb, List, [], ◌∷◌, map, length, get_or, ℤ, pos, ◌-ℤ◌, Some, sum_by, refl, ap, ◌∙◌, ap₂, arith, lit≤, w32, SFits, to_z, of_z}
+use Rattle.std.proofs.Common.{◌≡◌, ℕ, ◌+◌, ◌^◌, ◌<◌, ◌≤◌, true, leb, List, [], ◌∷◌, map, length, get_or, ℤ, pos, ◌-ℤ◌, Some, sum_by, sym, refl, ap, ◌∙◌, subst, ap₂, arith, lit≤, w32, SFits, to_z, of_z}
 use Rattle.std.specs.List.{range_with_len, list_all, AllByRecursion as All}
 use Rattle.std.proofs.lemmas.Nat.{mul-le}
 use Rattle.std.proofs.ByRecursion.{All-get_or, All-weaker, All-map, All-from_get_or, sum_by_le}
@@ -91,7 +91,7 @@ module _ (b : book.Meaning) (laws : book.Lawful b) where
   pub settlements_fit : (es : List Entry) → Few es → All (SFits w32) (settlements b es)
   settlements_fit es few = each_line (SFits w32) (λ line. pos (settled b es line)) (λ line. fit_settlement (settled b es line) (settled_bound es few line))
 
-  pub difference_fits : (es fs : List Entry) → Few es → Few fs → (line : ℕ) → SFits w32 (difference b es fs line)
+  difference_fits : (es fs : List Entry) → Few es → Few fs → (line : ℕ) → SFits w32 (difference b es fs line)
   difference_fits es fs few more line = fit_difference (settled b fs line) (settled b es line) (settled_bound fs more line) (settled_bound es few line)
 
   pub differences_fit : (es fs : List Entry) → Few es → Few fs → All (SFits w32) (differences b es fs)
@@ -103,10 +103,12 @@ module _ (b : book.Meaning) (laws : book.Lawful b) where
       by_bits (settled b es line) (get_or amounts line (pos 0)) (settled_bound es few line)
       (ap (λ xs. get_or xs line (pos 0)) is ∙ on_line (λ n. pos (settled b es n)) line below)
 
-  -- One such less another.
-  pub difference_read : (es fs : List Entry) → Few es → Few fs → (before after : List ℤ) → before ≡ settlements b es → after ≡ settlements b fs → (line : ℕ) → line < lines → to_z w32 (of_z w32 (get_or after line (pos 0))) -ℤ to_z w32 (of_z w32 (get_or before line (pos 0))) ≡ difference b es fs line
-  difference_read es fs few more before after is are line below =
-      ap₂ (λ x y. x -ℤ y) (settlement_read fs more after are line below) (settlement_read es few before is line below)
+  -- One such less another fits, and is read as the difference.
+  pub subtracted : (es fs : List Entry) → Few es → Few fs → (before after : List ℤ) → before ≡ settlements b es → after ≡ settlements b fs → (line : ℕ) → line < lines → let less = to_z w32 (of_z w32 (get_or after line (pos 0))) -ℤ to_z w32 (of_z w32 (get_or before line (pos 0))) in SFits w32 less × (to_z w32 (of_z w32 less) ≡ difference b es fs line)
+  subtracted es fs few more before after is are line below =
+      let read = ap₂ (λ x y. x -ℤ y) (settlement_read fs more after are line below) (settlement_read es few before is line below) in
+      let fits = subst (SFits w32) (sym read) (difference_fits es fs few more line) in
+      (fits, to_z-of_z w32 _ fits ∙ read)
 
   -- A reading more settles to no less, and one fewer to no more.
   pub added_settles : (e : Entry) (es : List Entry) (line : ℕ) → settled b es line ≤ settled b (added e es) line

@@ -3,20 +3,13 @@ ghost use Rattle.std.specs.Prelude.{◌≡◌, length};
 ghost use Rattle.std.specs.Result.{result_err};
 ghost use Rattle.frame.specs.Tests.{buffer_test};
 ghost use Rattle.account.specs.Change.{Leaves, after as left_after};
-ghost use Rattle.account.specs.Reply.{answer_of, Responds, Replies};
+ghost use Rattle.account.specs.Reply.{Replies};
 ghost use Rattle.account.specs.Runs.{exchanged, LawOnRuns};
-ghost use Rattle.account.specs.Tests.{verdict};
 ghost use Rattle.account.specs.Worked.{PostsWorked};
 
-use crate::account::account;
-use crate::cancel::cancel;
-use crate::close::close;
-use crate::correct::correct;
-use crate::post::post;
-use answer::Answer;
+use crate::accounts::Accounts;
 use book::Book;
 use reading::Fault;
-use request::Request;
 use store::Store;
 
 // The least length of an answer buffer.
@@ -36,7 +29,7 @@ pub fn serve<B: Book, S: Store>(
     ensures worked { PostsWorked }
 {
     check_buffer(answer)?;
-    reply(book, store, line).write(answer)
+    Accounts { book, store }.reply(line).write(answer)
 }
 
 // A refusal, where the answer buffer is too short.
@@ -47,29 +40,5 @@ fn check_buffer(buffer: &[u8]) -> Result<(), Fault>
         Err(Fault::Buffer)
     } else {
         Ok(())
-    }
-}
-
-// What is answered to a line, also a refusal.
-fn reply<B: Book, S: Store>(book: &B, store: &mut S, line: &[u8]) -> Answer
-    ensures value { result ≡ answer_of (B.Book.meaning book.now) (S.Store.meaning store.old).held (verdict (B.Book.meaning book.now) (S.Store.meaning store.old) 128 line.now) }
-    ensures changes { Leaves (S.Store.meaning store.old) (left_after (B.Book.meaning book.now) (S.Store.meaning store.old) 128 line.now) (S.Store.meaning store.new) }
-{
-    match respond(book, store, line) {
-        Ok(answer) => answer,
-        Err(fault) => Answer::Refused(fault),
-    }
-}
-
-// The answer to a line, or the fault that stops it.
-fn respond<B: Book, S: Store>(book: &B, store: &mut S, line: &[u8]) -> Result<Answer, Fault>
-    ensures { Responds (B.Book.meaning book.now) (S.Store.meaning store.old) (verdict (B.Book.meaning book.now) (S.Store.meaning store.old) 128 line.now) result (S.Store.meaning store.new) }
-{
-    match Request::read(line)? {
-        Request::Post { at, reading } => post(book, store, at, &reading),
-        Request::Correct { at, reading } => correct(book, store, at, &reading),
-        Request::Cancel { at, meter } => cancel(book, store, at, meter),
-        Request::Close { at } => close(store, at),
-        Request::Account { at } => account(book, store, at),
     }
 }

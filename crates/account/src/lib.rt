@@ -1,14 +1,10 @@
 // What each request does to the site months and what is answered, with the law on runs of requests.
 #![tactic(auto)]
 
-mod account;
-mod cancel;
-mod change;
-mod close;
-mod correct;
+mod accounts;
 mod exchange;
-mod look_up;
-mod post;
+mod held;
+mod readings;
 mod settle;
 
 pub use exchange::{BUFFER, serve};

@@ -1,0 +1,7 @@
+use Rattle.std.proofs.Common.{rules}
+use Rattle.account.proofs.Requests.{cancel_responds}
+use Rattle.account.proofs.accounts.Accounts.cancel.Goals as goal
+
+pub returns-clause-responds : goal.returns-clause-responds
+returns-clause-responds g c =
+    cancel_responds (g.B.Book.meaning c.args.self.now.book.now) (g.S.Store.meaning c.args.self.now.store.now) _ c.args.at c.args.meter (g.S.Store.lawful c.args.self.now.store.now).apart c.edit.result c.edit.ensures.edits (λ before x gave. search rules)

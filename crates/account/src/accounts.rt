@@ -1,0 +1,15 @@
+// The site months of a store, under a book.
+mod account;
+mod cancel;
+mod close;
+mod correct;
+mod edit;
+mod post;
+mod reply;
+
+// What a request asks, and what it changes.
+#[derive(Drop)]
+pub(crate) struct Accounts<'a, B, S> {
+    pub(crate) book: &'a B,
+    pub(crate) store: &'a mut S,
+}
