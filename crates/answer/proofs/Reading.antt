@@ -1,15 +1,11 @@
 -- A line of amounts: its tests, its one spelling, and that what is written reads back.
-use Rattle.std.proofs.Common.{◌≡◌, ℕ, ◌-◌, ◌%◌, ◌<◌, not, List, [], ◌∷◌, length, drop, ℤ, is_some, Some, None, sym, refl, ap, ◌∙◌, ap₂, arith}
+use Rattle.std.proofs.Common.{◌≡◌, ℕ, ◌-◌, ◌%◌, ◌<◌, List, [], ◌∷◌, length, drop, ℤ, Some, None, sym, refl, ap, ◌∙◌, ap₂, arith}
 use Rattle.std.specs.List.{AllByRecursion as All}
 use Rattle.std.proofs.ByRecursion.{All-take, All-drop}
 use Rattle.std.proofs.lemmas.List.{take_at, length-append}
 use Rattle.std.proofs.lemmas.Bool.Decides.{nat_tests}
-use Rattle.reading.specs.declared.fault.Fault.{Fault}
-use Rattle.reading.specs.declared.fault.Fault.TheVariants.{Kind}
 use Rattle.frame.specs.Line.{spelled, bytes_of}
 use Rattle.frame.specs.Seal.{framed, kind_of, payload_of, check_byte}
-use Rattle.reading.specs.First.{when}
-use Rattle.frame.specs.Tests.{kind_test}
 use Rattle.frame.proofs.Assembly.{sealed_framed, framed_below}
 use Rattle.frame.proofs.Bytes.{each_below}
 use Rattle.frame.proofs.Firsts.{fields_decide}

@@ -1,11 +1,9 @@
 -- The tests of a request by its kind.
-use Rattle.std.proofs.Common.{◌≡◌, ℕ, not, List, [], ◌∷◌, is_some, Some, None, Option, sym, refl, ap, ◌∙◌}
+use Rattle.std.proofs.Common.{◌≡◌, ℕ, List, [], ◌∷◌, Some, Option, sym, ap, ◌∙◌}
 use Rattle.std.specs.Option.{option_map}
 use Rattle.reading.specs.declared.fault.Fault.{Fault}
-use Rattle.reading.specs.declared.fault.Fault.TheVariants.{Kind}
 use Rattle.frame.specs.Seal.{kind_of}
-use Rattle.reading.specs.First.{when, or_else, first}
-use Rattle.frame.specs.Tests.{kind_test}
+use Rattle.reading.specs.First.{or_else, first}
 use Rattle.frame.proofs.Firsts.{first_two}
 use Rattle.request.specs.declared.kind.RequestKind.{RequestKind}
 use Rattle.request.specs.Kinds.{request_kind, request_length, payload_length}

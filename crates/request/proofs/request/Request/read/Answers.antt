@@ -5,7 +5,7 @@ use Rattle.frame.specs.Held.{held}
 use Rattle.frame.specs.Line.{bytes_of}
 use Rattle.frame.specs.Seal.{carries}
 use Rattle.reading.specs.First.{when}
-use Rattle.frame.proofs.Firsts.{line_stops, kind_stops, payload_stops, fields_decide}
+use Rattle.frame.proofs.Firsts.{line_stops, payload_stops, fields_decide}
 use Rattle.request.specs.Asked.{asked, asked_in, requested}
 use Rattle.request.specs.Kinds.{request_length, payload_length}
 use Rattle.request.specs.Tests.{request_field_tests}
