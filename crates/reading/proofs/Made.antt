@@ -34,4 +34,4 @@ module _ {F A B : Type 0} (g : Mut F (A × Unit {0}) B) (made : A → B) (f : F)
   map_same xs ys n c d long r =
       ext_get_or d ys (map made xs) (r.long ∙ sym long ∙ sym (length-map xs made))
       (λ k below. let lt : k < length xs = omega (arith, long, r.long) in
-        map_at xs ys n 0 k k c d (omega (arith, long)) (omega arith) r.each ∙ sym (get_or-map made xs k c d lt))
+      map_at xs ys n 0 k k c d (omega (arith, long)) (omega arith) r.each ∙ sym (get_or-map made xs k c d lt))
