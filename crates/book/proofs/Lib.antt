@@ -1,2 +1,2 @@
 pub mod Cents
-pub mod Lines
+pub mod Each

@@ -1,8 +1,8 @@
 -- Oregon's book keeps the laws of a book.
-use Rattle.std.specs.Prelude.{◌≡◌, ℕ, zero, suc, ◌+◌, ◌-◌, ◌*◌, ◌^◌, ◌≤◌, min, max, Bool, true, false, cond, List, [], ◌∷◌, is_some, Some, None, Option, ◌==◌, nat_le, nat_lt, slice_index, refl}
-use Rattle.std.proofs.Common.{sym, ap, subst, ◌∙◌, arith}
+use Rattle.std.specs.Prelude.{◌≡◌, ℕ, ◌+◌, ◌-◌, ◌*◌, ◌^◌, ◌≤◌, min, max, Bool, true, false, cond, List, is_some, Some, None, Option, ◌==◌, nat_lt, slice_index}
+use Rattle.std.proofs.Common.{sym, ap, ◌∙◌, arith}
 use Rattle.std.proofs.lemmas.Nat.{mul-le}
-use Rattle.std.proofs.lemmas.Bool.{and_parts, leb-true, cond_both}
+use Rattle.std.proofs.lemmas.Bool.{cond_both}
 use Rattle.std.proofs.lemmas.Bool.Decides.{nat_tests}
 use Rattle.reading.specs.Flags.{three_phase}
 use Rattle.reading.specs.Limits.{Limits}
@@ -15,7 +15,7 @@ use Rattle.reading.proofs.Within.{limits}
 use Rattle.book.specs.Meaning.{Lawful}
 use Rattle.book.specs.Money.{cent, half_up, rounded}
 use Rattle.book.proofs.Cents.{half_up_nothing, half_up_rises, half_up_bounded, rounded_bounded}
-use Rattle.book.proofs.Lines.{line_bounded}
+use Rattle.book.proofs.Each.{each_at}
 use Rattle.oregon_card.specs.Layout.{Values, rates_fit}
 use Rattle.oregon.specs.Rates.{energy_rates, transmission_rates, transmission_kw_rates, usage_rates, demand_rates, reactive_rates, rates_203, rates_204, rates_207, band_28, load_28, band_730, load_730}
 use Rattle.oregon_card.specs.Schedules.{schedule_of, place, unoffered, refusal, check}
@@ -23,7 +23,7 @@ use Rattle.oregon.specs.Sheet.{rate, factor, per_kwh, per_kw, kw, billed, basic,
 use Rattle.oregon_card.specs.declared.schedule.Schedule.{Schedule}
 use Rattle.oregon_card.specs.declared.schedule.Schedule.TheVariants.{S4, S5, S23, S28, S29, S728, S730}
 use Rattle.oregon.specs.Products.{three_bounded}
-use Rattle.oregon.specs.Tables.{kw_rates, kwh_rates, floors_bounded}
+use Rattle.oregon.specs.Tables.{kw_rates, kwh_rates, row_bounded, floors_bounded}
 
 -- A reading that the book serves weighs what its schedule says.
 pub weight_served : (card : Values) (e : Entry) (line w : ℕ) (s : Schedule) → None ≡ check e → schedule_of e.schedule ≡ Some s → w ≡ metered card s e line → w ≡ weight card e line
@@ -110,13 +110,8 @@ rider_bounded table s e l h = omega (arith, per_kwh_bounded (rate table (place s
 floor_bounded : (s : Schedule) (e : Entry) → Limits e → floor s e ≤ 10 ^ 15
 floor_bounded s e l = omega (arith, rounded_bounded (credit s e) (credit_bounded s e l))
 
-fit_at : (rates : List ℕ) (i : ℕ) → rates_fit rates ≡ true → slice_index rates i ≤ 65535
-fit_at [] i h = omega arith
-fit_at (r ∷ rs) zero h = leb-true r 65535 (and_parts (nat_le r 65535) (rates_fit rs) h).0
-fit_at (r ∷ rs) (suc i) h = fit_at rs i (and_parts (nat_le r 65535) (rates_fit rs) h).1
-
 at_card_bounded : (rates : List ℕ) (s : Schedule) (e : Entry) → Limits e → rates_fit rates ≡ true → at_card rates s e ≤ 10 ^ 15
-at_card_bounded rates s e l h = omega (arith, per_kwh_bounded (slice_index rates (place s)) e.kwh e (fit_at rates (place s) h) l.kwh)
+at_card_bounded rates s e l h = omega (arith, per_kwh_bounded (slice_index rates (place s)) e.kwh e (row_bounded 65535 rates (place s) h) l.kwh)
 
 -- The lesser of a cap and what rises.
 capped_rises : (b : Bool) (cap m n : ℕ) → m ≤ n → cond b (min cap m) m ≤ cond b (min cap n) n
@@ -125,17 +120,17 @@ capped_rises false cap m n h = h
 
 -- What the check refuses, it refuses as a book.
 flag_only : (b : Bool) (f : Fault) → cond b (Some fault.Flag) None ≡ Some f → layer_of f ≡ Book
-flag_only true f h = let is : fault.Flag ≡ f = cc in subst (λ x. layer_of x ≡ Book) is refl
-flag_only false f h = let z : ◌≡◌ {A = ℕ} 0 1 = cc in absurd (omega arith)
+flag_only true f h = grind arith
+flag_only false f h = grind arith
 
 own_fault : (o : Option Schedule) (e : Entry) (f : Fault) → refusal o e ≡ Some f → layer_of f ≡ Book
-own_fault None e f h = let is : fault.Schedule ≡ f = cc in subst (λ x. layer_of x ≡ Book) is refl
+own_fault None e f h = grind arith
 own_fault (Some s) e f h = flag_only (unoffered s e) f h
 
 module _ (card : Values) (supply : rates_fit card.supply ≡ true) (low : rates_fit card.low_income ≡ true) where
   exact_bounded : (s : Schedule) (e : Entry) → Limits e → (line : ℕ) → exact card s e line ≤ 10 ^ 15
   exact_bounded s e l line =
-      line_bounded (10 ^ 15) (lines card s e) line (
+      each_at (λ units. units ≤ 10 ^ 15) 0 (omega arith) (lines card s e) line (
         omega (arith, basic_bounded s e),
         (
           load_demand_bounded s e l,

@@ -1,7 +1,7 @@
 -- Oregon's card as a frame: the cap, and for each schedule 4, 5, 23, 28, 29, 728 and 730 its supply rate and then its
 -- low-income rate.
-use Rattle.std.specs.Prelude.{ℕ, ◌+◌, ◌*◌, Bool, true, cond, ◌&&◌, List, [], ◌∷◌, map, Some, None, Option, ◌==◌, nat_le, nat_lt}
-use Rattle.std.specs.List.{range_with_len}
+use Rattle.std.specs.Prelude.{ℕ, ◌+◌, ◌*◌, Bool, cond, List, [], ◌∷◌, map, Some, None, Option, ◌==◌, nat_le, nat_lt}
+use Rattle.std.specs.List.{range_with_len, list_all}
 use Rattle.reading.specs.declared.fault.Fault.{Fault}
 use Rattle.reading.specs.declared.fault.Fault.TheVariants.{Limit}
 use Rattle.frame.specs.Seal.{field}
@@ -28,8 +28,7 @@ values_in frame =
 
 -- Rates of two bytes.
 abbrev pub rates_fit : List ℕ → Bool
-rates_fit [] = true
-rates_fit (rate ∷ rates) = nat_le rate 65535 && rates_fit rates
+rates_fit rates = list_all (λ rate. nat_le rate 65535) rates
 
 -- 7: the cap is above 99,999,999.
 abbrev pub cap_test : List ℕ → Option Fault

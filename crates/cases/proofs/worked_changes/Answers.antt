@@ -1,6 +1,5 @@
-use Rattle.std.proofs.Common.{refl}
 use Rattle.cases.proofs.Computed.{right}
 use Rattle.cases.proofs.worked_changes.Goals as goal
 
-pub returns : goal.returns
-returns c = record { value = refl; right = right }
+pub returns-clause-right : goal.returns-clause-right
+returns-clause-right c = right
