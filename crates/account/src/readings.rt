@@ -26,7 +26,7 @@ impl Readings<'_> {
     {
         let mut sum = 0;
         for entry in self.entries {
-            let Some(reading) = Reading::check(*entry) else {
+            let Ok(reading) = Reading::try_from(*entry) else {
                 unreachable()
             };
             sum += book.weight(&reading, line);

@@ -40,7 +40,7 @@ impl Held {
 
 // A record to read into.
 fn placeholder() -> Record {
-    let Some(reading) = Reading::check(BLANK) else {
+    let Ok(reading) = Reading::try_from(BLANK) else {
         unreachable()
     };
     Record::new(SiteMonth { site: 0, month: 0 }, &reading)
