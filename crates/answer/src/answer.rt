@@ -8,7 +8,7 @@ ghost use Rattle.answer.specs.Answers.{answer_frame, answer_line, AmountsReadBac
 ghost use Rattle.answer.specs.Kinds.{kind_byte};
 ghost use Rattle.answer.specs.declared.answer.Answer.TheVariants.{Refused};
 
-use crate::kind::AmountsKind;
+use crate::kind::{AmountsKind, OtherKind};
 use frame::Frame;
 use reading::{Fault, LINES};
 
@@ -41,8 +41,8 @@ impl Answer {
     {
         match self {
             Answer::Amounts { kind, amounts } => amounts_frame(*kind, amounts),
-            Answer::Closed => Frame::new(0x84, &[]),
-            Answer::CardAccepted => Frame::new(0x90, &[]),
+            Answer::Closed => Frame::new(OtherKind::Closed as u8, &[]),
+            Answer::CardAccepted => Frame::new(OtherKind::CardAccepted as u8, &[]),
             Answer::Refused(fault) => refusal_frame(*fault),
         }
     }
@@ -53,7 +53,10 @@ fn refusal_frame(fault: Fault) -> Frame
     ensures { held result ≡ answer_frame (Refused fault) }
 {
     let [high, low] = fault.place().to_be_bytes();
-    Frame::new(0x7f, &[fault.number(), fault.layer() as u8, high, low])
+    Frame::new(
+        OtherKind::Refused as u8,
+        &[fault.number(), fault.layer() as u8, high, low],
+    )
 }
 
 // The frame of the amounts, four bytes each.

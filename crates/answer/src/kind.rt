@@ -1,4 +1,4 @@
-// The kinds of answer that carry amounts.
+// The kinds of answer. Each discriminant is the kind byte.
 ghost use Rattle.std.specs.Prelude.{◌≡◌, not, is_some, IfOk, Some};
 ghost use Rattle.std.specs.Option.{ok_or};
 ghost use Rattle.std.specs.Result.{result_err};
@@ -8,13 +8,21 @@ ghost use Rattle.answer.specs.Kinds.{kind_byte, amounts_kind};
 
 use reading::Fault;
 
-// Each discriminant is the answer's kind byte.
+// Those that carry amounts.
 #[derive(Clone, Copy, Debug, PartialEq, Eq)]
 pub enum AmountsKind {
     Post = 0x81,
     Cancel = 0x82,
     Correct = 0x83,
     Account = 0x85,
+}
+
+// Those that carry none.
+#[derive(Clone, Copy, Debug, PartialEq, Eq)]
+pub(crate) enum OtherKind {
+    Refused = 0x7f,
+    Closed = 0x84,
+    CardAccepted = 0x90,
 }
 
 // The kind that a byte names, or a refusal.
