@@ -2,14 +2,13 @@
 // each on standard output.
 #![tactic(auto)]
 
-ghost use Rattle.std.specs.Prelude.{◌≤◌};
-
 use account::serve;
 use cooperative::Cooperative;
 use image_store::Image;
-use line_reader::{LineReader, write_line};
+use line_reader::{Answered, BUFFER, LineReader};
 use slot::SLOT;
 use slots::check;
+use std::io::BufReader;
 use std::process::ExitCode;
 use std::{fs, io};
 use store::Store;
@@ -19,9 +18,6 @@ const USAGE: &str = "usage: coop-lines IMAGE
 Answers lines from standard input by the cooperative's schedule, one line for
 each. IMAGE is the file of a retentive image: it is written back after each
 line that is accepted. A missing file starts as 64 empty slots.";
-
-// An answer line and its line feed.
-const BUFFER: usize = 129;
 
 // How many slots a new image has.
 const SLOTS: usize = 64;
@@ -62,27 +58,24 @@ fn serve_image(rt: &HostRuntime, path: &str, mut bytes: Vec<u8>) -> io::Result<E
 
 // Answers lines. The image is safe in its file before an accepted line is answered.
 fn run(rt: &HostRuntime, path: &str, image: &mut Image<'_>) -> io::Result<()> {
-    let mut reader = LineReader::new();
-    for _ in 0..u64::MAX {
-        if !reader.advance(rt)? {
-            break;
-        }
-        let mut buffer = [0; BUFFER];
-        let length = answer_request(image, reader.line(), &mut buffer);
+    let mut reader = LineReader::new(BufReader::new(rt.alloc(), rt.stdin())?);
+    reader.answer(rt, |line, buffer| {
+        let answered = answer_request(image, line, buffer);
         if !buffer.starts_with(b"7F") {
             image_file::write(rt, path, image.bytes())?;
         }
-        write_line(rt, &mut buffer, length)?;
-    }
+        Ok(answered)
+    })?;
     Ok(())
 }
 
 // Answers a line as a request.
-fn answer_request(image: &mut Image<'_>, line: &[u8], buffer: &mut [u8; BUFFER]) -> usize
-    ensures { result ≤ 128 }
-{
+fn answer_request(image: &mut Image<'_>, line: &[u8], buffer: &mut [u8; BUFFER]) -> Answered<()> {
     let Ok(length) = serve(&Cooperative, image, line, buffer) else {
         unreachable()
     };
-    length
+    Answered {
+        length,
+        found: None,
+    }
 }
