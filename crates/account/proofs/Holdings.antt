@@ -17,9 +17,6 @@ same_true a b h =
 pub same_self : (a : SiteMonth) → same a a ≡ true
 same_self a = grind (arith, nat_tests)
 
-pub same_flip : (a b : SiteMonth) → same a b ≡ same b a
-same_flip a b = grind (arith, nat_tests)
-
 pub look_up_same : (a b : SiteMonth) (held : List Holding) → same a b ≡ true → look_up a held ≡ look_up b held
 look_up_same a b held s = ap (λ at. look_up at held) (same_true a b s)
 

@@ -12,4 +12,3 @@ pub mod Served
 pub mod Edits
 pub mod Requests
 pub mod Verdicts
-pub mod Worked

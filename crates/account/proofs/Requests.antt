@@ -70,6 +70,10 @@ added_some : (e : Entry) (es : List Entry) → added e es ≡ [] → ⊥
 added_some e [] none = cc
 added_some e (f ∷ es) none = grind arith
 
+-- What an edit gives: it is refused by these tests, or leaves the readings edited.
+abbrev pub GivesEdit : (Held → Result Held Fault → Type 0) → (Option Holding → Option Fault) → (List Entry → List Entry) → Type 0
+GivesEdit Gives tests edit = (before : Held) (x : Result Held Fault) → Gives before x → (result_err x ≡ tests (found before.kept)) × made x (Edited before edit)
+
 module _ (b : book.Meaning) (s t : store.Meaning) where
   -- A request that is served.
   pub served : (q : Asked) (a : Answer) → decided b s q ≡ Ok q → a ≡ answer_to b s.held q → Leaves s (change q s.held) t → Responds b s (decided b s q) (Ok a) t
@@ -80,7 +84,7 @@ module _ (b : book.Meaning) (s t : store.Meaning) where
   refused q fault is leaves = subst (λ v. Responds b s v (Err fault) t) (sym is) (record { answers = refl; changes = leaves })
 
   -- There is always room for a record that is held.
-  pub not_full : (at : SiteMonth) → is_some (look_up at s.held) ≡ true → full_test at s ≡ None
+  not_full : (at : SiteMonth) → is_some (look_up at s.held) ≡ true → full_test at s ≡ None
   not_full at here = rw here
 
   -- A meter that stands in the site month has its room.
@@ -88,20 +92,20 @@ module _ (b : book.Meaning) (s t : store.Meaning) where
   meter_room at meter none = not_full at (in_record meter (look_up at s.held) none)
 
   -- What decides of a request that edits: that the site month is closed, the edit, and that the store is full.
-  abbrev pub Decides : Asked → SiteMonth → (Option Holding → Option Fault) → Type 0
+  abbrev Decides : Asked → SiteMonth → (Option Holding → Option Fault) → Type 0
   Decides q at tests = decided b s q ≡ ruled (or_else (when (closed_at at s.held) Closed) (or_else (tests (look_up at s.held)) (full_test at s))) (Some q)
 
-  pub post_decides : (at : SiteMonth) (e : Entry) → None ≡ b.check e → Decides (post at e) at (λ l. first (add_tests e (readings_of l)))
+  post_decides : (at : SiteMonth) (e : Entry) → None ≡ b.check e → Decides (post at e) at (λ l. first (add_tests e (readings_of l)))
   post_decides at e offered =
       ap (λ test. ruled test (Some (post at e)))
       (post_order (b.check e) (closed_test s.held (post at e)) (standing_test s.held (post at e)) (record_full_test s.held (post at e)) (full_test at s) offered)
 
-  pub correct_decides : (at : SiteMonth) (e : Entry) → None ≡ b.check e → Decides (correct at e) at (λ l. meter_test e.meter (readings_of l))
+  correct_decides : (at : SiteMonth) (e : Entry) → None ≡ b.check e → Decides (correct at e) at (λ l. meter_test e.meter (readings_of l))
   correct_decides at e offered =
       ap (λ test. ruled test (Some (correct at e)))
       (meter_order (b.check e) (closed_test s.held (correct at e)) (missing_test s.held (correct at e)) (full_test at s) offered (meter_room at e.meter))
 
-  pub cancel_decides : (at : SiteMonth) (meter : ℕ) → Decides (cancel at meter) at (λ l. meter_test meter (readings_of l))
+  cancel_decides : (at : SiteMonth) (meter : ℕ) → Decides (cancel at meter) at (λ l. meter_test meter (readings_of l))
   cancel_decides at meter =
       ap (λ test. ruled test (Some (cancel at meter)))
       (meter_order None (closed_test s.held (cancel at meter)) (missing_test s.held (cancel at meter)) (full_test at s) refl (meter_room at meter))
@@ -118,7 +122,7 @@ module _ (b : book.Meaning) (s t : store.Meaning) where
       -- The record that is left was kept, or the site month's was taken out.
       kept_or_not : (k : Option Record) (r : Result Answer Fault) → MatchOption k (edit (readings_of l) ≡ []) (λ x. holding x.row ≡ record { at = at; closed = closed_of l; readings = edit (readings_of l) }) → Left s at (found k) t (taken r) → made r (λ a. a ≡ Amounts kind (differences b (readings_of l) (readings_of (found k)))) → (edit (readings_of l) ≡ [] → full_test at s ≡ None) → decided b s q ≡ ruled (full_test at s) (Some q) → Responds b s (decided b s q) r t
       kept_or_not None (Ok a) none (removed, done) says room decides = edited [] a (sym none) (decides ∙ ap (λ test. ruled test (Some q)) (room none)) says (removed_without s at t apart removed)
-      kept_or_not None (Err fault) none (removed, done) says room decides = absurd (let z : ◌≡◌ {A = ℕ} 0 1 = cc in omega arith)
+      kept_or_not None (Err fault) none (removed, done) says room decides = cc
       kept_or_not (Some x) r rest kept says room decides =
           let h = holding x.row in
           let stands = ap (λ (y : Holding). y.readings) rest in
@@ -151,7 +155,7 @@ module _ (b : book.Meaning) (s t : store.Meaning) where
           (λ none. room passes (ap (λ x. edit (readings_of x)) (sym is) ∙ none))
           (decides ∙ lets)
 
-      pub responds : {Gives : Held → Result Held Fault → Type 0} (r : Result Answer Fault) → Edits Gives b s kind at r t → ((before : Held) (x : Result Held Fault) → Gives before x → (result_err x ≡ tests (found before.kept)) × made x (Edited before edit)) → Responds b s (decided b s q) r t
+      responds : {Gives : Held → Result Held Fault → Type 0} (r : Result Answer Fault) → Edits Gives b s kind at r t → GivesEdit Gives tests edit → Responds b s (decided b s q) r t
       responds r edits gives = by_closed (closed_of (found edits.before.kept)) refl
         where
           by_closed : (c : Bool) → closed_of (found edits.before.kept) ≡ c → Responds b s (decided b s q) r t
@@ -163,15 +167,15 @@ module _ (b : book.Meaning) (s t : store.Meaning) where
               came edits.before edits.is_at edits.is_held is edits.edited r gave.0 gave.1 edits.comes
 
   -- The three such requests.
-  pub post_responds : (at : SiteMonth) (e : Entry) → once s.held ≡ true → None ≡ b.check e → {Gives : Held → Result Held Fault → Type 0} (r : Result Answer Fault) → Edits Gives b s Post at r t → ((before : Held) (x : Result Held Fault) → Gives before x → (result_err x ≡ first (add_tests e (readings_of (found before.kept)))) × made x (Edited before (added e))) → Responds b s (decided b s (post at e)) r t
+  pub post_responds : (at : SiteMonth) (e : Entry) → once s.held ≡ true → None ≡ b.check e → {Gives : Held → Result Held Fault → Type 0} (r : Result Answer Fault) → Edits Gives b s Post at r t → GivesEdit Gives (λ l. first (add_tests e (readings_of l))) (added e) → Responds b s (decided b s (post at e)) r t
   post_responds at e apart offered r edits gives =
       responds at apart (post at e) Post (added e) refl refl (λ l. first (add_tests e (readings_of l))) (post_decides at e offered) (λ _ none. absurd (added_some e (readings_at at s.held) none)) r edits gives
 
-  pub correct_responds : (at : SiteMonth) (e : Entry) → once s.held ≡ true → None ≡ b.check e → {Gives : Held → Result Held Fault → Type 0} (r : Result Answer Fault) → Edits Gives b s Correct at r t → ((before : Held) (x : Result Held Fault) → Gives before x → (result_err x ≡ meter_test e.meter (readings_of (found before.kept))) × made x (Edited before (replaced e))) → Responds b s (decided b s (correct at e)) r t
+  pub correct_responds : (at : SiteMonth) (e : Entry) → once s.held ≡ true → None ≡ b.check e → {Gives : Held → Result Held Fault → Type 0} (r : Result Answer Fault) → Edits Gives b s Correct at r t → GivesEdit Gives (λ l. meter_test e.meter (readings_of l)) (replaced e) → Responds b s (decided b s (correct at e)) r t
   correct_responds at e apart offered r edits gives =
       responds at apart (correct at e) Correct (replaced e) refl refl (λ l. meter_test e.meter (readings_of l)) (correct_decides at e offered) (λ stands _. meter_room at e.meter stands) r edits gives
 
-  pub cancel_responds : (at : SiteMonth) (meter : ℕ) → once s.held ≡ true → {Gives : Held → Result Held Fault → Type 0} (r : Result Answer Fault) → Edits Gives b s Cancel at r t → ((before : Held) (x : Result Held Fault) → Gives before x → (result_err x ≡ meter_test meter (readings_of (found before.kept))) × made x (Edited before (taken_out meter))) → Responds b s (decided b s (cancel at meter)) r t
+  pub cancel_responds : (at : SiteMonth) (meter : ℕ) → once s.held ≡ true → {Gives : Held → Result Held Fault → Type 0} (r : Result Answer Fault) → Edits Gives b s Cancel at r t → GivesEdit Gives (λ l. meter_test meter (readings_of l)) (taken_out meter) → Responds b s (decided b s (cancel at meter)) r t
   cancel_responds at meter apart r edits gives =
       responds at apart (cancel at meter) Cancel (taken_out meter) refl refl (λ l. meter_test meter (readings_of l)) (cancel_decides at meter) (λ stands _. meter_room at meter stands) r edits gives
 

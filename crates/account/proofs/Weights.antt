@@ -2,7 +2,7 @@
 use Rattle.std.proofs.Common.{◌≡◌, ℕ, ◌+◌, ◌^◌, ◌<◌, ◌≤◌, true, leb, List, [], ◌∷◌, map, length, get_or, ℤ, pos, ◌-ℤ◌, Some, sum_by, sym, refl, ap, ◌∙◌, subst, ap₂, arith, lit≤, w32, SFits, to_z, of_z}
 use Rattle.std.specs.List.{range_with_len, list_all, AllByRecursion as All}
 use Rattle.std.proofs.lemmas.Nat.{mul-le}
-use Rattle.std.proofs.ByRecursion.{All-get_or, All-weaker, All-map, All-from_get_or, sum_by_le}
+use Rattle.std.proofs.ByRecursion.{All-weaker, All-map, All-from_get_or, sum_by_le}
 use Rattle.std.proofs.lemmas.Int.{ints, to_z-of_z}
 use Rattle.std.proofs.lemmas.List.Sums.{sum_by-cons}
 use Rattle.std.proofs.lemmas.Bool.{and_parts, cond_both, leb-true}
@@ -53,9 +53,6 @@ each_within (e ∷ es) is =
     let p = and_parts (lawful_reading e) (list_all lawful_reading es) is in
     ((and_parts (lawful e) _ p.0).0, each_within es p.1)
 
-pub within_at : (es : List Entry) (i : ℕ) (d : Entry) → i < length es → list_all lawful_reading es ≡ true → lawful (get_or es i d) ≡ true
-within_at es i d below is = All-get_or (λ e. lawful e ≡ true) es i d below (each_within es is)
-
 -- So many stand in each site month of lawful records.
 pub few_at : (at : SiteMonth) (held : List Holding) → list_all lawful_holding held ≡ true → Few (readings_at at held)
 few_at at [] is = record { most = lit≤ tt; each = refl }
@@ -67,7 +64,7 @@ few_at at (h ∷ held) is =
 pub each_line : (P : ℤ → Type 0) (f : ℕ → ℤ) → ((line : ℕ) → P (f line)) → All P (map f (range_with_len 0 lines))
 each_line P f each = All-map P f (range_with_len 0 lines) (All-from_get_or (λ line. P (f line)) (range_with_len 0 lines) 0 (λ i _. each (get_or (range_with_len 0 lines) i 0)))
 
-pub fit_settlement : (n : ℕ) → n ≤ 2000000000 → SFits w32 (pos n)
+fit_settlement : (n : ℕ) → n ≤ 2000000000 → SFits w32 (pos n)
 fit_settlement n a = omega (arith, ints)
 
 fit_difference : (m n : ℕ) → m ≤ 2000000000 → n ≤ 2000000000 → SFits w32 (pos m -ℤ pos n)
