@@ -1,5 +1,5 @@
 -- What a reading costs by a book.
-use Rattle.std.specs.Prelude.{◌≡◌, ℕ, ◌<◌, List, map, sum, slice_index, slice_index_or}
+use Rattle.std.specs.Prelude.{◌≡◌, ℕ, ◌<◌, Bool, true, false, List, map, sum, slice_index, slice_index_or}
 use Rattle.std.specs.List.{range_with_len}
 use Rattle.reading.specs.Statement.{lines}
 use Rattle.reading.specs.declared.entry.Entry.{Entry}
@@ -7,6 +7,7 @@ use Rattle.book.specs.Meaning.{Meaning}
 use Rattle.book.specs.declared.sense.Sense.{Sense}
 use Rattle.book.specs.declared.sense.Sense.TheVariants.{Charge, Credit}
 use Rattle.bills.specs.declared.bill.Bill.{Bill}
+use Rattle.bills.specs.declared.bill.Item.{Item}
 
 -- The settlement of a reading alone on a statement line.
 abbrev pub settled : Meaning → Entry → ℕ → ℕ
@@ -28,9 +29,30 @@ charges_below sense amounts end = sum (map (λ line. as_charge (sense line) (sli
 abbrev pub credits_below : (ℕ → Sense) → List ℕ → ℕ → ℕ
 credits_below sense amounts end = sum (map (λ line. as_credit (sense line) (slice_index amounts line)) (range_with_len 0 end))
 
+-- A statement line of a reading alone.
+abbrev pub item_of : Meaning → Entry → ℕ → Item
+item_of book entry line = record { sense = book.sense line; amount = settled book entry line }
+
+-- The amount, and the sense, of each statement line.
+abbrev pub amounts_of : List Item → List ℕ
+amounts_of items = map (λ item. item.amount) items
+
+abbrev pub senses_of : List Item → List Sense
+senses_of items = map (λ item. item.sense) items
+
+-- Whether two senses are one, and whether a statement line has a sense.
+abbrev pub is_sense : Sense → Sense → Bool
+is_sense Charge Charge = true
+is_sense Charge Credit = false
+is_sense Credit Charge = false
+is_sense Credit Credit = true
+
+abbrev pub has_sense : Sense → Item → Bool
+has_sense sense item = is_sense item.sense sense
+
 -- The bill of a reading alone.
 pub record Billed (book : Meaning) (entry : Entry) (bill : Bill) : Type 0 where
-  pub amounts : (line : ℕ) → line < lines → slice_index bill.amounts line ≡ settled book entry line
-  pub senses : (line : ℕ) (d : Sense) → line < lines → slice_index_or bill.senses line d ≡ book.sense line
-  pub charges : bill.total.charges ≡ charges_below book.sense bill.amounts lines
-  pub credits : bill.total.credits ≡ credits_below book.sense bill.amounts lines
+  pub amounts : (line : ℕ) → line < lines → slice_index (amounts_of bill.items) line ≡ settled book entry line
+  pub senses : (line : ℕ) (d : Sense) → line < lines → slice_index_or (senses_of bill.items) line d ≡ book.sense line
+  pub charges : bill.total.charges ≡ charges_below book.sense (amounts_of bill.items) lines
+  pub credits : bill.total.credits ≡ credits_below book.sense (amounts_of bill.items) lines

@@ -11,8 +11,8 @@ use cooperative::Cooperative;
 use oregon::Oregon;
 use std::io;
 
-// What a reading is answered by.
-#[derive(Clone, Copy)]
+// What a reading is answered by. A choice of two for the whole run: a closure for it would be handed on by every call.
+#[derive(Clone, Copy, Debug, PartialEq, Eq)]
 pub enum Form {
     Statement,
     Csv,
@@ -66,7 +66,7 @@ impl Desk {
             Ok(None) => {}
             Ok(Some(statement)) => match self.form {
                 Form::Statement => println!(rt; "{statement}")?,
-                Form::Csv => rt.println(Csv(statement.bill.amounts))?,
+                Form::Csv => rt.println(Csv(statement.bill.items.map(|item| item.amount)))?,
             },
             Err(problem) => println!(rt; "# line {number}: {problem}")?,
         }
@@ -84,6 +84,7 @@ impl Desk {
             }
             Some(oregon) => {
                 let asked = Asked::read(&self.line)?;
+                // The books are of two types, so that a `dyn` of one would be chosen by this match too.
                 let bill = match asked.utility {
                     Utility::Oregon => Bill::of(&oregon, &asked.reading)?,
                     Utility::Cooperative => Bill::of(&Cooperative, &asked.reading)?,

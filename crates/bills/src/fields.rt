@@ -8,10 +8,12 @@ ghost use Rattle.bills.specs.Number.{number_in};
 
 use crate::line::{FIELDS, Line};
 use crate::number::number;
-use crate::problem::{Field, Problem, Reason};
+use crate::problem::{Field, Problem};
 use crate::utility::Utility;
 use line_buffer::LineBuffer;
-use reading::{Entry, Reading};
+use reading::{
+    Entry, MOST_DEMAND, MOST_FLAGS, MOST_KVAR, MOST_KWH, MOST_LOAD, MOST_POWER_FACTOR, Reading,
+};
 
 // What a line asks for: the bill of a reading by a utility's book.
 #[derive(Clone, Copy)]
@@ -36,31 +38,41 @@ struct Numbers {
 
 impl Asked {
     pub fn read(line: &Line) -> Result<Asked, Problem> {
-        let Some(fields) = line.fields() else {
-            return Err(Problem::new(Field::Fields, Reason::NotTen));
+        let fields = line.fields().ok_or(Problem::NotTen)?;
+        let utility = Utility::try_from(fields[0].line())?;
+        let entry = Numbers::read(fields)?.entry()?;
+        let Ok(reading) = Reading::try_from(entry) else {
+            unreachable()
         };
-        let Some(utility) = Utility::of(fields[0].line()) else {
-            return Err(Problem::new(Field::Book, Reason::Unknown));
-        };
-        match Reading::check(Numbers::read(fields)?.entry()?) {
-            Some(reading) => Ok(Asked { utility, reading }),
-            None => unreachable(),
-        }
+        Ok(Asked { utility, reading })
     }
 }
 
 impl Numbers {
+    // The numbers from left to right, the first field being a name.
     fn read(fields: &[LineBuffer; FIELDS]) -> Result<Numbers, Problem> {
+        let [
+            _,
+            schedule,
+            flags,
+            kwh,
+            off_hours,
+            demand,
+            peak_demand,
+            kvar,
+            power_factor,
+            load,
+        ] = fields;
         Ok(Numbers {
-            schedule: number_of(&fields[1], Field::Schedule)?,
-            flags: number_of(&fields[2], Field::Flags)?,
-            kwh: number_of(&fields[3], Field::Kwh)?,
-            off_hours: number_of(&fields[4], Field::OffHours)?,
-            demand: number_of(&fields[5], Field::Demand)?,
-            peak_demand: number_of(&fields[6], Field::PeakDemand)?,
-            kvar: number_of(&fields[7], Field::Kvar)?,
-            power_factor: number_of(&fields[8], Field::PowerFactor)?,
-            load: number_of(&fields[9], Field::LoadSize)?,
+            schedule: number_of(schedule, Field::Schedule)?,
+            flags: number_of(flags, Field::Flags)?,
+            kwh: number_of(kwh, Field::Kwh)?,
+            off_hours: number_of(off_hours, Field::OffHours)?,
+            demand: number_of(demand, Field::Demand)?,
+            peak_demand: number_of(peak_demand, Field::PeakDemand)?,
+            kvar: number_of(kvar, Field::Kvar)?,
+            power_factor: number_of(power_factor, Field::PowerFactor)?,
+            load: number_of(load, Field::LoadSize)?,
         })
     }
 
@@ -69,19 +81,23 @@ impl Numbers {
         ensures within { IfOk result (λ e. lawful e ≡ true) }
         ensures value { IfOk result (λ e. Entered self.now e) }
     {
-        let schedule = within(self.schedule, 65_535, Field::Schedule)?;
-        let flags = within(self.flags, 15, Field::Flags)?;
-        let kwh = within(self.kwh, 999_999, Field::Kwh)?;
-        let demand = within(self.demand, 99_999, Field::Demand)?;
-        let peak_demand = within(self.peak_demand, 99_999, Field::PeakDemand)?;
-        let kvar = within(self.kvar, 9_999, Field::Kvar)?;
-        let power_factor = within(self.power_factor, 100, Field::PowerFactor)?;
-        let load = within(self.load, 10_000, Field::LoadSize)?;
+        let schedule = within(self.schedule, u16::MAX.into(), Field::Schedule)?;
+        let flags = within(self.flags, MOST_FLAGS.into(), Field::Flags)?;
+        let kwh = within(self.kwh, MOST_KWH.into(), Field::Kwh)?;
+        let demand = within(self.demand, MOST_DEMAND.into(), Field::Demand)?;
+        let peak_demand = within(self.peak_demand, MOST_DEMAND.into(), Field::PeakDemand)?;
+        let kvar = within(self.kvar, MOST_KVAR.into(), Field::Kvar)?;
+        let power_factor = within(
+            self.power_factor,
+            MOST_POWER_FACTOR.into(),
+            Field::PowerFactor,
+        )?;
+        let load = within(self.load, MOST_LOAD.into(), Field::LoadSize)?;
         if self.off_hours > kwh {
-            return Err(Problem::new(Field::OffHours, Reason::AboveKwh));
+            return Err(Problem::AboveKwh);
         }
         if peak_demand > demand {
-            return Err(Problem::new(Field::PeakDemand, Reason::AboveDemand));
+            return Err(Problem::AboveDemand);
         }
         Ok(Entry {
             meter: 0,
@@ -101,17 +117,14 @@ impl Numbers {
 fn number_of(text: &LineBuffer, field: Field) -> Result<u64, Problem>
     ensures { result_ok result ≡ number_in (received text.now) }
 {
-    match number(text.line()) {
-        Some(value) => Ok(value),
-        None => Err(Problem::new(field, Reason::NotANumber)),
-    }
+    number(text.line()).ok_or(Problem::NotANumber(field))
 }
 
 fn within(value: u64, limit: u64, field: Field) -> Result<u64, Problem>
     ensures { MatchResult result (λ v. (v ≡ value) × (v ≤ limit)) (λ _. limit < value) }
 {
     if value > limit {
-        return Err(Problem::new(field, Reason::Above { limit }));
+        return Err(Problem::Above { field, limit });
     }
     Ok(value)
 }

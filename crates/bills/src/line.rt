@@ -1,18 +1,20 @@
 // A line as it arrives.
 use line_buffer::LineBuffer;
+use std::array;
 
 pub const FIELDS: usize = 10;
 
 // Only the front of a long line or a long field is kept: one that long is no card, no name and no number.
-#[derive(Clone, Copy)]
+#[derive(Drop)]
 pub struct Line {
     // The line, for a card.
     characters: LineBuffer,
     // Its first ten fields, for a reading.
     fields: [LineBuffer; FIELDS],
-    // Its commas, counted up to ten.
+    // Its commas, counted up to ten: one more than the fields have, where a vector of them would want an eleventh.
     commas: usize,
-    // A carriage return was the last character. It is held back, since it counts only if no line feed follows.
+    // A carriage return was the last character. It is held back, since it counts only if no line feed follows. No more
+    // is to be known of it than this flag.
     returned: bool,
 }
 
@@ -20,7 +22,7 @@ impl Line {
     pub fn new() -> Line {
         Line {
             characters: LineBuffer::new(),
-            fields: [LineBuffer::new(); FIELDS],
+            fields: array::from_fn(|_| LineBuffer::new()),
             commas: 0,
             returned: false,
         }

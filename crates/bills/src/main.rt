@@ -28,36 +28,32 @@ kvar, power factor in percent, load size in kW. Prints a statement of each.
   --help   print this text";
 
 // What the arguments ask for.
-#[derive(Clone, Copy)]
+#[derive(Clone, Copy, Debug, PartialEq, Eq)]
 enum Command {
     Serve(Form),
     Help,
-    Unknown,
 }
 
 impl Command {
-    // An argument that is no text is unknown too.
-    fn read(rt: &HostRuntime) -> Command {
-        let Ok(arguments) = env::args(rt) else {
-            return Command::Unknown;
-        };
+    // Nothing where an argument is unknown, as one that is no text is.
+    fn read(rt: &HostRuntime) -> Option<Command> {
         let mut form = Form::Statement;
-        for argument in arguments.skip(1) {
+        for argument in env::args(rt).ok()?.skip(1) {
             match argument.as_str() {
                 "--csv" => form = Form::Csv,
-                "--help" => return Command::Help,
-                _ => return Command::Unknown,
+                "--help" => return Some(Command::Help),
+                _ => return None,
             }
         }
-        Command::Serve(form)
+        Some(Command::Serve(form))
     }
 }
 
 fn main(rt: HostRuntime) -> io::Result<ExitCode> {
     match Command::read(&rt) {
-        Command::Serve(form) => serve(&rt, form)?,
-        Command::Help => rt.println(USAGE)?,
-        Command::Unknown => {
+        Some(Command::Serve(form)) => serve(&rt, form)?,
+        Some(Command::Help) => rt.println(USAGE)?,
+        None => {
             rt.eprintln(USAGE)?;
             return Ok(ExitCode::FAILURE);
         }

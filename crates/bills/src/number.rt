@@ -2,7 +2,7 @@
 ghost use Rattle.std.specs.Prelude.{◌≡◌};
 ghost use Rattle.bills.specs.Number.{number_in};
 
-// The number that a text writes in one to ten digits.
+// The number that a text writes in one to ten digits. To `parse` a sign and any number of zeros are right as well.
 pub fn number(text: &[u8]) -> Option<u64>
     ensures { result ≡ number_in text.now }
 {
@@ -11,7 +11,7 @@ pub fn number(text: &[u8]) -> Option<u64>
     }
     let mut value = 0;
     for byte in text {
-        if *byte < b'0' || *byte > b'9' {
+        if !byte.is_ascii_digit() {
             return None;
         }
         value = 10 * value + u64::from(*byte - b'0');

@@ -2,18 +2,29 @@
 use reading::Fault;
 use std::fmt;
 
-#[derive(Clone, Copy)]
-pub struct Problem {
-    pub field: Field,
-    pub reason: Reason,
+#[derive(Clone, Copy, Debug, PartialEq, Eq)]
+pub enum Problem {
+    // The card is refused.
+    Card(Fault),
+    // There are not ten fields.
+    NotTen,
+    // The first field is the name of no book.
+    UnknownBook,
+    NotANumber(Field),
+    Above { field: Field, limit: u64 },
+    // The off-hours kWh are.
+    AboveKwh,
+    // The peak-hours demand is.
+    AboveDemand,
+    // The book lacks the schedule.
+    Lacking,
+    // A flag is not offered on the schedule.
+    NotOffered,
 }
 
-// The part of a line that a problem lies in.
-#[derive(Clone, Copy)]
+// A number on a line.
+#[derive(Clone, Copy, Debug, PartialEq, Eq)]
 pub enum Field {
-    Card,
-    Fields,
-    Book,
     Schedule,
     Flags,
     Kwh,
@@ -25,44 +36,44 @@ pub enum Field {
     LoadSize,
 }
 
-#[derive(Clone, Copy)]
-pub enum Reason {
-    // The card is refused, with this number and place.
-    Refused { number: u8, place: u16 },
-    // There are not ten fields.
-    NotTen,
-    // It is the name of no book.
-    Unknown,
-    NotANumber,
-    Above { limit: u64 },
-    AboveKwh,
-    AboveDemand,
-    // The book lacks the schedule.
-    Lacking,
-    // A flag is not offered on the schedule.
-    NotOffered,
-}
-
-impl Problem {
-    pub fn new(field: Field, reason: Reason) -> Problem {
-        Problem { field, reason }
-    }
-}
-
+// The part of the line, and what is wrong there.
 impl fmt::Display for Problem {
     fn fmt<W: fmt::Write>(&self, f: &mut fmt::Formatter<W>) -> fmt::Result {
-        let field = self.field;
-        let reason = self.reason;
-        write!(f, "{field}: {reason}")
+        match self {
+            Problem::Card(fault) => {
+                let number = fault.number();
+                let place = fault.place();
+                write!(f, "card: refused {number}, place {place}")
+            }
+            Problem::NotTen => f.write_str("fields: ten are wanted"),
+            Problem::UnknownBook => f.write_str("book: oregon or cooperative"),
+            Problem::NotANumber(field) => write!(f, "{field}: not a number"),
+            Problem::Above { field, limit } => write!(f, "{field}: above its limit of {limit}"),
+            Problem::AboveKwh => write!(f, "{}: above the kWh", Field::OffHours),
+            Problem::AboveDemand => write!(f, "{}: above the demand", Field::PeakDemand),
+            Problem::Lacking => {
+                let number = Fault::Schedule.number();
+                write!(
+                    f,
+                    "{}: refused {number}, the book lacks it",
+                    Field::Schedule
+                )
+            }
+            Problem::NotOffered => {
+                let number = Fault::Flag.number();
+                write!(
+                    f,
+                    "{}: refused {number}, not offered on the schedule",
+                    Field::Flags
+                )
+            }
+        }
     }
 }
 
 impl fmt::Display for Field {
     fn fmt<W: fmt::Write>(&self, f: &mut fmt::Formatter<W>) -> fmt::Result {
-        let name = match self {
-            Field::Card => "card",
-            Field::Fields => "fields",
-            Field::Book => "book",
+        f.write_str(match self {
             Field::Schedule => "schedule",
             Field::Flags => "flags",
             Field::Kwh => "kWh",
@@ -72,29 +83,6 @@ impl fmt::Display for Field {
             Field::Kvar => "kvar",
             Field::PowerFactor => "power factor",
             Field::LoadSize => "load size",
-        };
-        f.write_str(name)
-    }
-}
-
-impl fmt::Display for Reason {
-    fn fmt<W: fmt::Write>(&self, f: &mut fmt::Formatter<W>) -> fmt::Result {
-        match self {
-            Reason::Refused { number, place } => write!(f, "refused {number}, place {place}"),
-            Reason::NotTen => write!(f, "ten are wanted"),
-            Reason::Unknown => write!(f, "oregon or cooperative"),
-            Reason::NotANumber => write!(f, "not a number"),
-            Reason::Above { limit } => write!(f, "above its limit of {limit}"),
-            Reason::AboveKwh => write!(f, "above the kWh"),
-            Reason::AboveDemand => write!(f, "above the demand"),
-            Reason::Lacking => {
-                let number = Fault::Schedule.number();
-                write!(f, "refused {number}, the book lacks it")
-            }
-            Reason::NotOffered => {
-                let number = Fault::Flag.number();
-                write!(f, "refused {number}, not offered on the schedule")
-            }
-        }
+        })
     }
 }

@@ -1,11 +1,12 @@
 // Whose book a reading is reckoned by.
-ghost use Rattle.std.specs.Prelude.{◌≡◌, MatchOption};
+ghost use Rattle.std.specs.Prelude.{◌≡◌, MatchResult};
 ghost use Rattle.bills.specs.Name.{Nobody, name_of};
 
+use crate::problem::Problem;
 use reading::LINES;
 use std::fmt;
 
-#[derive(Clone, Copy)]
+#[derive(Clone, Copy, Debug, PartialEq, Eq)]
 pub enum Utility {
     Oregon,
     Cooperative,
@@ -36,18 +37,24 @@ static COOPERATIVE: [&str; 5] = [
     "power factor",
 ];
 
-impl Utility {
-    // The utility of a name.
-    pub fn of(name: &[u8]) -> Option<Utility>
-        ensures { MatchOption result (Nobody name.now) (λ utility. name.now ≡ name_of utility) }
+// The utility of a name.
+impl TryFrom<&[u8]> for Utility {
+    type Error = Problem;
+
+    ghost try_from_gives = { λ name result. MatchResult result (λ utility. name.now ≡ name_of utility) (λ _. Nobody name.now) };
+
+    fn try_from(name: &[u8]) -> Result<Utility, Problem>
+        ensures { MatchResult result (λ utility. name.now ≡ name_of utility) (λ _. Nobody name.now) }
     {
         match name {
-            b"oregon" => Some(Utility::Oregon),
-            b"cooperative" => Some(Utility::Cooperative),
-            _ => None,
+            b"oregon" => Ok(Utility::Oregon),
+            b"cooperative" => Ok(Utility::Cooperative),
+            _ => Err(Problem::UnknownBook),
         }
     }
+}
 
+impl Utility {
     pub fn line_names(self) -> &'static [&'static str] {
         match self {
             Utility::Oregon => &OREGON,
@@ -58,10 +65,9 @@ impl Utility {
 
 impl fmt::Display for Utility {
     fn fmt<W: fmt::Write>(&self, f: &mut fmt::Formatter<W>) -> fmt::Result {
-        let name = match self {
+        f.write_str(match self {
             Utility::Oregon => "oregon",
             Utility::Cooperative => "cooperative",
-        };
-        f.write_str(name)
+        })
     }
 }
