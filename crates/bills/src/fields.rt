@@ -99,6 +99,7 @@ impl Numbers {
         if peak_demand > demand {
             return Err(Problem::AboveDemand);
         }
+        // A cast loses nothing of a number within its limit.
         Ok(Entry {
             meter: 0,
             schedule: schedule as u16,

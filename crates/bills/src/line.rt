@@ -11,10 +11,10 @@ pub struct Line {
     characters: LineBuffer,
     // Its first ten fields, for a reading.
     fields: [LineBuffer; FIELDS],
-    // Its commas, counted up to ten: one more than the fields have, where a vector of them would want an eleventh.
+    // Its commas, counted up to ten. A vector of the fields would need room for an eleventh to tell ten from more.
     commas: usize,
-    // A carriage return was the last character. It is held back, since it counts only if no line feed follows. No more
-    // is to be known of it than this flag.
+    // A carriage return was the last character. It is held back, since it counts only if no line feed follows. A flag
+    // holds it whole, for the character is known.
     returned: bool,
 }
 
@@ -59,7 +59,7 @@ impl Line {
     // Begins another line.
     pub fn clear(&mut self) {
         self.characters.clear();
-        for field in self.fields.iter_mut() {
+        for field in &mut self.fields {
             field.clear();
         }
         self.commas = 0;
@@ -76,10 +76,6 @@ impl Line {
 
     // The fields, if there are ten.
     pub fn fields(&self) -> Option<&[LineBuffer; FIELDS]> {
-        if self.commas == FIELDS - 1 {
-            Some(&self.fields)
-        } else {
-            None
-        }
+        (self.commas == FIELDS - 1).then_some(&self.fields)
     }
 }

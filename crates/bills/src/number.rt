@@ -2,7 +2,7 @@
 ghost use Rattle.std.specs.Prelude.{◌≡◌};
 ghost use Rattle.bills.specs.Number.{number_in};
 
-// The number that a text writes in one to ten digits. To `parse` a sign and any number of zeros are right as well.
+// The number that a text writes in one to ten digits. `parse` would take a plus sign too, and zeros without end.
 pub fn number(text: &[u8]) -> Option<u64>
     ensures { result ≡ number_in text.now }
 {

@@ -12,9 +12,9 @@ pub enum Problem {
     UnknownBook,
     NotANumber(Field),
     Above { field: Field, limit: u64 },
-    // The off-hours kWh are.
+    // The off-hours kWh are above the kWh.
     AboveKwh,
-    // The peak-hours demand is.
+    // The peak-hours demand is above the demand.
     AboveDemand,
     // The book lacks the schedule.
     Lacking,
