@@ -19,7 +19,7 @@ pub(crate) struct Readings<'a> {
 }
 
 impl Readings<'_> {
-    // The sum of their weights on a statement line.
+    // The sum of their weights on a statement line: a loop, as the project's rules have it.
     fn weight<B: Book>(&self, book: &B, line: usize) -> u64
         ensures value { result ≡ sum_by (λ e. (B.Book.meaning book.now).weight e line) self.now.entries.now }
         ensures bound { result ≤ 16 * 10 ^ 15 }

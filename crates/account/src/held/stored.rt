@@ -16,11 +16,7 @@ impl Held {
         ensures value { found result.kept ≡ look_up at (S.Store.meaning store.now).held }
     {
         let mut place = placeholder();
-        let kept = if store.read(at, &mut place) {
-            Some(place)
-        } else {
-            None
-        };
+        let kept = store.read(at, &mut place).then_some(place);
         Held { at, kept }
     }
 
