@@ -96,6 +96,6 @@ slot_again slot long low fit =
     let entries = entries_again 16 (drop 8 slot) (simp length-drop (omega arith)) (All-drop (λ b. b < 256) 8 slot fit) in
     both (header ∙ bytes_from_is 0 8 slot (omega arith)) entries ∙ take-append-drop 8 slot
 
--- The site month that a lawful slot is found under is its row's.
-pub head_is : (slot : List ℕ) → lawful_slot slot ≡ true → head_in slot ≡ cond (used (row_in slot).state) (Some (row_in slot).at) None
+-- The site month that a slot is found under is its row's.
+pub head_is : (slot : List ℕ) → length slot ≡ 424 → head_in slot ≡ cond (used (row_in slot).state) (Some (row_in slot).at) None
 head_is slot h = grind (arith, nat_tests)

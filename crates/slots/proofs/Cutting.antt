@@ -25,10 +25,11 @@ pub table_long : (bytes : List ℕ) → length (table_of bytes) ≡ slot_count b
 table_long bytes = length-map (slots_of bytes) row_in ∙ slots_long (slot_count bytes) bytes
 
 -- One row of the table.
+pub row_at : (bytes : List ℕ) (i : ℕ) → i < slot_count bytes → get_or (table_of bytes) i vacant ≡ row_in (get_or (slots_of bytes) i [])
+row_at bytes i h = get_or-map row_in (slots_of bytes) i [] vacant (let n = slots_long (slot_count bytes) bytes in omega arith)
+
 pub row_is : (bytes : List ℕ) (i : ℕ) → i < slot_count bytes → get_or (table_of bytes) i vacant ≡ row_in (take 424 (drop (424 * i) bytes))
-row_is bytes i h =
-    get_or-map row_in (slots_of bytes) i [] vacant (let n = slots_long (slot_count bytes) bytes in omega arith)
-    ∙ ap row_in (slot_is (slot_count bytes) bytes i h)
+row_is bytes i h = row_at bytes i h ∙ ap row_in (slot_is (slot_count bytes) bytes i h)
 
 -- A slot written over.
 module _ (bytes : List ℕ) (i : ℕ) (new : List ℕ) (h : i < slot_count bytes) (long : length new ≡ 424) where

@@ -1,37 +1,66 @@
 -- Searches through the rows of an image, and what its flaws say of it.
-use Rattle.std.proofs.Common.{◌≡◌, ℕ, suc, ◌+◌, ◌-◌, ◌%◌, ◌<◌, ◌≤◌, Bool, true, false, cond, not, ◌&&◌, eqb, ltb, leb, List, [], ◌∷◌, length, get_or, drop, is_some, is_ok, Some, None, Ok, Err, Option, Result, sym, refl, ap, ◌∙◌, arith, MatchOption}
+use Rattle.std.proofs.Common.{◌≡◌, ℕ, suc, ◌+◌, ◌-◌, ◌%◌, ◌<◌, ◌≤◌, Bool, true, false, cond, not, ◌&&◌, eqb, ltb, leb, List, [], ◌∷◌, map, length, get_or, drop, is_some, is_ok, Some, None, Ok, Err, Option, Result, sym, refl, ap, ◌∙◌, arith, rules, MatchOption}
 use Rattle.std.specs.Option.{option_map}
 use Rattle.std.specs.Result.{result_err}
-use Rattle.std.specs.List.{list_all}
-use Rattle.std.proofs.lemmas.List.{drop_more, drop_all}
-use Rattle.std.proofs.lemmas.Bool.{cond-true, cond-false, not-true, not-false}
+use Rattle.std.specs.List.{list_all, position, position_from}
+use Rattle.std.proofs.lemmas.Iterator.Adapters.{position_from-zero}
+use Rattle.std.proofs.lemmas.List.{drop_more, drop-map, length-map, get_or-map}
+use Rattle.std.proofs.lemmas.List.Quantifiers.{position-Some}
+use Rattle.std.proofs.lemmas.Bool.{not-true, not-false}
 use Rattle.std.proofs.lemmas.Bool.Decides.{nat_tests}
 use Rattle.reading.specs.declared.site_month.SiteMonth.{SiteMonth}
 use Rattle.record.specs.Rows.{holding, keyed, vacant}
 use Rattle.record.specs.States.{used}
 use Rattle.record.specs.declared.row.Row.{Row}
-use Rattle.slot.specs.Reading.{lawful_slot}
+use Rattle.slot.specs.Reading.{row_in, lawful_slot, head_in}
+use Rattle.slot.proofs.Rows.{head_is}
 use Rattle.store.specs.Meaning.{look_up, holds, once}
-use Rattle.store.specs.Table.{held_in, Found}
+use Rattle.store.specs.Table.{held_in, Found, Free}
 use Rattle.store.proofs.Tables.{look_first, holds_from}
 use Rattle.slots.specs.declared.flaw.Flaw.{Flaw}
 use Rattle.slots.specs.declared.flaw.Flaw.TheVariants.{PartSlot, NoSlot, TooManySlots, Unlawful, Twice}
 use Rattle.slots.specs.Cuts.{slot_count, slots_of, table_of, lawful_image}
+use Rattle.slots.proofs.Cutting.{slot_is, slot_long, row_at}
 use Rattle.slots.specs.Flaws.{otherwise, size_flaw, unlawful_from, place_from, again, twice_from, flaw_of}
 
--- A search row by row.
-module _ (at : SiteMonth) (rows : List Row) (i : ℕ) (goal : Option ℕ) (so_far : place_from i at (drop i rows) ≡ goal) where
-  next : i < length rows → cond (keyed at (get_or rows i vacant)) (Some i) (place_from (i + 1) at (drop (i + 1) rows)) ≡ goal
-  next h = ap (place_from i at) (sym (drop_more rows i vacant h)) ∙ so_far
+-- A search through slots by position, counted from n on.
+position_on : {X : Type 0} (p : X → Bool) (n i : ℕ) (xs : List X) → option_map (λ k. n + k) (position_from p i xs) ≡ position_from p (n + i) xs
+position_on p n i [] = refl
+position_on p n i (x ∷ xs) = by (p x) (position_on p n (i + 1) xs ∙ ap (λ m. position_from p m xs) (omega arith))
+  where
+    by : (t : Bool) → option_map (λ k. n + k) (position_from p (i + 1) xs) ≡ position_from p (n + i + 1) xs → option_map (λ k. n + k) (cond t (Some i) (position_from p (i + 1) xs)) ≡ cond t (Some (n + i)) (position_from p (n + i + 1) xs)
+    by true rest = refl
+    by false rest = rest
 
-  pub place_here : i < length rows → keyed at (get_or rows i vacant) ≡ true → Some i ≡ goal
-  place_here h is = sym (cond-true (keyed at (get_or rows i vacant)) (Some i) (place_from (i + 1) at (drop (i + 1) rows)) is) ∙ next h
+place_rows : (at : SiteMonth) (i : ℕ) (slots : List (List ℕ)) → position_from (λ slot. keyed at (row_in slot)) i slots ≡ place_from i at (map row_in slots)
+place_rows at i [] = refl
+place_rows at i (slot ∷ slots) = ap (λ o. cond (keyed at (row_in slot)) (Some i) o) (place_rows at (i + 1) slots)
 
-  pub place_on : i < length rows → keyed at (get_or rows i vacant) ≡ false → place_from (i + 1) at (drop (i + 1) rows) ≡ goal
-  place_on h is = sym (cond-false (keyed at (get_or rows i vacant)) (Some i) (place_from (i + 1) at (drop (i + 1) rows)) is) ∙ next h
+pub placed : (at : SiteMonth) (bytes : List ℕ) (n : ℕ) (later : List (List ℕ)) (found : Option ℕ) → later ≡ drop n (slots_of bytes) → found ≡ position (λ slot. keyed at (row_in slot)) later → option_map (λ k. n + k) found ≡ place_from n at (drop n (table_of bytes))
+placed at bytes n later found rest is =
+    let p = λ (slot : List ℕ). keyed at (row_in slot) in
+    let shift : n + 0 ≡ n = omega arith in
+    ap (option_map (λ k. n + k)) (is ∙ position_from-zero p later) ∙ position_on p n 0 later ∙ ap (λ m. position_from p m later) shift ∙ place_rows at n later
+    ∙ ap (place_from n at) (ap (map row_in) rest ∙ sym (drop-map row_in n (slots_of bytes)))
 
-  pub place_none : length rows ≤ i → None ≡ goal
-  place_none h = ap (place_from i at) (sym (drop_all i rows h)) ∙ so_far
+-- The first vacant slot.
+abbrev vacant_slot : List ℕ → Bool
+vacant_slot slot = not (used (row_in slot).state)
+
+none_vacant : (i : ℕ) (slots : List (List ℕ)) → position_from vacant_slot i slots ≡ None → list_all (λ (row : Row). used row.state) (map row_in slots) ≡ true
+none_vacant i [] h = refl
+none_vacant i (slot ∷ slots) h = by (used (row_in slot).state) h (none_vacant (i + 1) slots)
+  where
+    by : (t : Bool) → cond (not t) (Some i) (position_from vacant_slot (i + 1) slots) ≡ None → (position_from vacant_slot (i + 1) slots ≡ None → list_all (λ (row : Row). used row.state) (map row_in slots) ≡ true) → t && list_all (λ (row : Row). used row.state) (map row_in slots) ≡ true
+    by true k rest = rest k
+    by false k rest = absurd (search rules)
+
+pub first_vacant : (slots : List (List ℕ)) (o : Option ℕ) → o ≡ position vacant_slot slots → Free (map row_in slots) o
+first_vacant slots None h = none_vacant 0 slots (sym (position_from-zero vacant_slot slots) ∙ sym h)
+first_vacant slots (Some i) h =
+    let found = position-Some vacant_slot slots i [] (sym h) in
+    let within = found.0 in
+    (let n = length-map slots row_in in omega arith, ap (λ (row : Row). used row.state) (get_or-map row_in slots i [] vacant within) ∙ not-true _ found.1)
 
 -- A search from the first row on finds the row, or there is none.
 place_found : (i : ℕ) (at : SiteMonth) (rows : List Row) → MatchOption (place_from i at rows) (holds at (held_in rows) ≡ false) (λ k. (i ≤ k) × (k - i < length rows) × (keyed at (get_or rows (k - i) vacant) ≡ true))
@@ -98,19 +127,36 @@ twice_some i (row ∷ rows) = either_some (option_map (Twice i) (again i row row
         rw (is, a, rest, not_not (once (held_in rows)))
     by false is rest = rw (is, rest, not_not (once (held_in rows)))
 
--- Slots asked one by one.
-module _ (slots : List (List ℕ)) (i : ℕ) (goal : Option Flaw) (so_far : unlawful_from i (drop i slots) ≡ goal) where
-  slot_next : i < length slots → cond (lawful_slot (get_or slots i [])) (unlawful_from (i + 1) (drop (i + 1) slots)) (Some (Unlawful i)) ≡ goal
-  slot_next h = ap (unlawful_from i) (sym (drop_more slots i [] h)) ∙ so_far
+-- The first slot that is not lawful.
+unlawful_on : (i : ℕ) (slots : List (List ℕ)) → option_map Unlawful (position_from (λ slot. not (lawful_slot slot)) i slots) ≡ unlawful_from i slots
+unlawful_on i [] = refl
+unlawful_on i (slot ∷ slots) = by (lawful_slot slot) (unlawful_on (i + 1) slots)
+  where
+    by : (t : Bool) → option_map Unlawful (position_from (λ slot. not (lawful_slot slot)) (i + 1) slots) ≡ unlawful_from (i + 1) slots → option_map Unlawful (cond (not t) (Some i) (position_from (λ slot. not (lawful_slot slot)) (i + 1) slots)) ≡ cond t (unlawful_from (i + 1) slots) (Some (Unlawful i))
+    by true rest = rest
+    by false rest = refl
 
-  pub unlawful_here : i < length slots → lawful_slot (get_or slots i []) ≡ false → Some (Unlawful i) ≡ goal
-  unlawful_here h is = sym (cond-false (lawful_slot (get_or slots i [])) (unlawful_from (i + 1) (drop (i + 1) slots)) (Some (Unlawful i)) is) ∙ slot_next h
+pub first_unlawful : (slots : List (List ℕ)) → option_map Unlawful (position (λ slot. not (lawful_slot slot)) slots) ≡ unlawful_from 0 slots
+first_unlawful slots = ap (option_map Unlawful) (position_from-zero (λ slot. not (lawful_slot slot)) slots) ∙ unlawful_on 0 slots
 
-  pub unlawful_on : i < length slots → lawful_slot (get_or slots i []) ≡ true → unlawful_from (i + 1) (drop (i + 1) slots) ≡ goal
-  unlawful_on h is = sym (cond-true (lawful_slot (get_or slots i [])) (unlawful_from (i + 1) (drop (i + 1) slots)) (Some (Unlawful i)) is) ∙ slot_next h
+-- A slot's site month, by its head, in the later ones.
+module _ (bytes : List ℕ) (i : ℕ) (h : i < slot_count bytes) where
+  head_at : head_in (get_or (slots_of bytes) i []) ≡ cond (used (get_or (table_of bytes) i vacant).state) (Some (get_or (table_of bytes) i vacant).at) None
+  head_at =
+      head_is (get_or (slots_of bytes) i []) (ap length (slot_is (slot_count bytes) bytes i h) ∙ slot_long bytes i h)
+      ∙ ap (λ (row : Row). cond (used row.state) (Some row.at) None) (sym (row_at bytes i h))
 
-  pub unlawful_none : length slots ≤ i → None ≡ goal
-  unlawful_none h = ap (unlawful_from i) (sym (drop_all i slots h)) ∙ so_far
+  pub some_again : (at : SiteMonth) (rows : List Row) → Some at ≡ head_in (get_or (slots_of bytes) i []) → place_from (i + 1) at rows ≡ again i (get_or (table_of bytes) i vacant) rows
+  some_again at rows is = by (get_or (table_of bytes) i vacant) (is ∙ head_at)
+    where
+      by : (row : Row) → Some at ≡ cond (used row.state) (Some row.at) None → place_from (i + 1) at rows ≡ again i row rows
+      by row e = grind arith
+
+  pub none_again : (rows : List Row) → None ≡ head_in (get_or (slots_of bytes) i []) → None ≡ again i (get_or (table_of bytes) i vacant) rows
+  none_again rows is = by (get_or (table_of bytes) i vacant) (is ∙ head_at)
+    where
+      by : (row : Row) → None ≡ cond (used row.state) (Some row.at) None → None ≡ again i row rows
+      by row e = grind arith
 
 -- Site months asked one by one.
 module _ (rows : List Row) (i : ℕ) (goal : Option Flaw) (so_far : twice_from i (drop i rows) ≡ goal) where
@@ -122,9 +168,6 @@ module _ (rows : List Row) (i : ℕ) (goal : Option Flaw) (so_far : twice_from i
 
   pub twice_on : i < length rows → None ≡ again i (get_or rows i vacant) (drop (i + 1) rows) → twice_from (i + 1) (drop (i + 1) rows) ≡ goal
   twice_on h is = ap (λ o. otherwise (option_map (Twice i) o) (twice_from (i + 1) (drop (i + 1) rows))) is ∙ row_next h
-
-  pub twice_none : length rows ≤ i → None ≡ goal
-  twice_none h = ap (twice_from i) (sym (drop_all i rows h)) ∙ so_far
 
 -- An image has a flaw exactly where it is not lawful.
 size_some : (part : Bool) (n : ℕ) → is_some (cond (not part) (Some PartSlot) (cond (eqb n 0) (Some NoSlot) (cond (ltb 1024 n) (Some TooManySlots) None))) ≡ not (part && (leb 1 n && leb n 1024))
@@ -152,10 +195,3 @@ flawed bytes =
 pub ok_lawful : (bytes : List ℕ) (r : Result Unit Flaw) → result_err r ≡ flaw_of bytes → is_ok r ≡ lawful_image bytes
 ok_lawful bytes (Ok x) h = sym (not-false (lawful_image bytes) (sym (flawed bytes) ∙ ap is_some (sym h)))
 ok_lawful bytes (Err flaw) h = sym (not-true (lawful_image bytes) (sym (flawed bytes) ∙ ap is_some (sym h)))
-
--- The tests of an image in their order.
-pub first_stops : (a b : Option Flaw) (flaw : Flaw) → Some flaw ≡ a → Some flaw ≡ otherwise a b
-first_stops a b flaw h = ap (λ o. otherwise o b) h
-
-pub first_passes : (a b outcome : Option Flaw) → None ≡ a → outcome ≡ b → outcome ≡ otherwise a b
-first_passes a b outcome h is = is ∙ ap (λ o. otherwise o b) h

@@ -1,5 +1,6 @@
 -- An image cut into slots.
-use Rattle.std.specs.Prelude.{◌≡◌, ℕ, zero, suc, ◌+◌, ◌*◌, ◌/◌, ◌%◌, ◌<◌, Bool, ◌&&◌, List, [], ◌∷◌, ◌++◌, map, length, take, drop, ◌==◌, nat_le}
+use Rattle.std.specs.Prelude.{◌≡◌, ℕ, ◌+◌, ◌*◌, ◌/◌, ◌%◌, ◌<◌, Bool, ◌&&◌, List, ◌++◌, map, length, take, drop, ◌==◌, nat_le}
+use Rattle.std.specs.Simd.{first_chunks}
 use Rattle.std.specs.List.{list_all}
 use Rattle.record.specs.declared.row.Row.{Row}
 use Rattle.slot.specs.Reading.{row_in, lawful_slot}
@@ -8,8 +9,7 @@ use Rattle.store.specs.Table.{held_in}
 
 -- So many slots of 424 bytes.
 abbrev pub slots : ℕ → List ℕ → List (List ℕ)
-slots zero bytes = []
-slots (suc n) bytes = take 424 bytes ∷ slots n (drop 424 bytes)
+slots n bytes = first_chunks 424 n bytes
 
 -- How many whole slots an image has.
 abbrev pub slot_count : List ℕ → ℕ

@@ -1,11 +1,10 @@
 // Whether an image can be taken into use.
-ghost use Rattle.std.specs.Prelude.{◌≡◌, ◌+◌, ◌<◌, drop, is_ok, slice_index_or};
+ghost use Rattle.std.specs.Prelude.{◌≡◌, is_ok};
 ghost use Rattle.std.specs.Result.{result_err};
-ghost use Rattle.record.specs.Rows.{vacant};
-ghost use Rattle.slots.specs.Cuts.{slot_count, slots_of, table_of, lawful_image};
-ghost use Rattle.slots.specs.Flaws.{size_flaw, unlawful_from, again as again_in, twice_from, flaw_of};
+ghost use Rattle.slots.specs.Cuts.{slots_of, table_of, lawful_image};
+ghost use Rattle.slots.specs.Flaws.{size_flaw, unlawful_from, twice_from, flaw_of};
 
-use crate::cut::{count, place, slot_at};
+use crate::cut::{count, place, slots_of};
 use crate::flaw::Flaw;
 use slot::{SLOT, decode, head};
 
@@ -47,33 +46,26 @@ fn check_size(bytes: &[u8]) -> Result<(), Flaw>
 fn check_slots(bytes: &[u8]) -> Result<(), Flaw>
     ensures { result_err result ≡ unlawful_from 0 (slots_of bytes.now) }
 {
-    for slot in 0..count(bytes) {
-        if decode(slot_at(bytes, slot)).is_err() {
-            return Err(Flaw::Unlawful { slot });
-        }
+    match slots_of(bytes)
+        .iter()
+        .position(|slot| decode(slot).is_err())
+    {
+        Some(slot) => Err(Flaw::Unlawful { slot }),
+        None => Ok(()),
     }
-    Ok(())
 }
 
 // A flaw, unless each site month stands once.
 fn check_site_months(bytes: &[u8]) -> Result<(), Flaw>
     ensures { result_err result ≡ twice_from 0 (table_of bytes.now) }
 {
-    for slot in 0..count(bytes) {
-        if let Some(again) = repeated(bytes, slot) {
+    for (slot, this) in slots_of(bytes).iter().enumerate() {
+        let Some(at) = head(this) else {
+            continue;
+        };
+        if let Some(again) = place(bytes, slot + 1, at) {
             return Err(Flaw::Twice { slot, again });
         }
     }
     Ok(())
-}
-
-// The first later slot with the site month of this one.
-fn repeated(bytes: &[u8], slot: usize) -> Option<usize>
-    requires { slot < slot_count bytes.now }
-    ensures { result ≡ again_in slot (slice_index_or (table_of bytes.now) slot vacant) (drop (slot + 1) (table_of bytes.now)) }
-{
-    match head(slot_at(bytes, slot)) {
-        Some(at) => place(bytes, slot + 1, at),
-        None => None,
-    }
 }

@@ -5,6 +5,6 @@ mod cut;
 mod flaw;
 mod inspect;
 
-pub use cut::{count, place, slot_at, vacancy};
+pub use cut::{count, place, slot_at, slots_of, vacancy};
 pub use flaw::Flaw;
 pub use inspect::check;

@@ -1,24 +1,29 @@
-use Rattle.std.proofs.Common.{◌<◌, ◌≤◌, length, sym, ap, ◌∙◌, arith}
+use Rattle.std.proofs.Common.{◌≡◌, ◌+◌, ◌-◌, ℕ, List, length, take, drop, Some, None, ap, ◌∙◌, rules, tests}
+use Rattle.std.proofs.lemmas.Iterator.{YieldsList-from_slice}
+use Rattle.std.proofs.lemmas.Iterator.Search.{position_from_yields_List}
+use Rattle.std.proofs.lemmas.List.{take_rest}
+use Rattle.std.specs.Option.{option_map}
 use Rattle.record.specs.Rows.{keyed}
-use Rattle.slots.specs.Cuts.{table_of}
-use Rattle.slots.proofs.Cutting.{table_long}
-use Rattle.slots.proofs.Places.{place_here, place_on, place_none}
+use Rattle.slot.specs.Reading.{row_in}
+use Rattle.slots.specs.Cuts.{slots_of}
+use Rattle.slots.proofs.Places.{placed}
 use Rattle.slots.proofs.cut.place.Goals as goal
 
-pub returns-then-is_of : goal.returns-then-is_of
-returns-then-is_of c =
-    let bytes = c.args.bytes.now in
-    let within : c.loop-i.i < length (table_of bytes) = let n = table_long bytes in omega arith in
-    place_here c.args.at (table_of bytes) c.loop-i.i _ c.loop-i.invariant within (ap (keyed c.args.at) (sym c.slot_at.ensures.row) ∙ sym c.if-is_of.ensures)
-
-pub loop-i-preserved : goal.loop-i-preserved
-loop-i-preserved c =
-    let bytes = c.args.bytes.now in
-    let within : c.loop-i.i < length (table_of bytes) = let n = table_long bytes in omega arith in
-    place_on c.args.at (table_of bytes) c.loop-i.i _ c.loop-i.invariant within (ap (keyed c.args.at) (sym c.slot_at.ensures.row) ∙ sym c.if-is_of.ensures)
+pub returns-in_err-i : goal.returns-in_err-i
+returns-in_err-i c =
+    let from = c.args.from in
+    let later = c.in_ok-later.later.now in
+    let rest = c.in_ok-later.ensures.lookup.0.2 ∙ ap (λ (slots : List (List ℕ)). take (length slots - from) (drop from slots)) c.slots_of.ensures.value ∙ take_rest (slots_of c.args.bytes.now) from in
+    let first = position_from_yields_List (λ slot. keyed c.args.at (row_in slot)) _ _ c.position.result c.position.ensures.ran (YieldsList-from_slice later (cc)) (λ x b q k. search (rules, tests)) in
+    let none : None ≡ c.position.result = search rules in
+    let result : c.from_residual-in_err-i.result ≡ None = search rules in
+    result ∙ ap (option_map (λ k. from + k)) none ∙ placed c.args.at c.args.bytes.now from later c.position.result rest first
 
 pub returns : goal.returns
 returns c =
-    let bytes = c.args.bytes.now in
-    let end : length (table_of bytes) ≤ c.loop-i.i = let n = table_long bytes in omega arith in
-    place_none c.args.at (table_of bytes) c.loop-i.i _ c.loop-i.invariant end
+    let from = c.args.from in
+    let later = c.in_ok-later.later.now in
+    let rest = c.in_ok-later.ensures.lookup.0.2 ∙ ap (λ (slots : List (List ℕ)). take (length slots - from) (drop from slots)) c.slots_of.ensures.value ∙ take_rest (slots_of c.args.bytes.now) from in
+    let first = position_from_yields_List (λ slot. keyed c.args.at (row_in slot)) _ _ c.position.result c.position.ensures.ran (YieldsList-from_slice later (cc)) (λ x b q k. search (rules, tests)) in
+    let some : Some c.in_ok-i.i ≡ c.position.result = search rules in
+    ap (option_map (λ k. from + k)) some ∙ placed c.args.at c.args.bytes.now from later c.position.result rest first
