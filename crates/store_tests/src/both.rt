@@ -1,5 +1,5 @@
 // What every store does, whether over rows or over an image.
-use crate::compare::{check_refusal, check_row};
+use crate::compare::check_refused;
 use crate::note::Noted;
 use crate::samples::{METERS, record_with};
 use crate::scenarios::{Scenario, on_both};
@@ -72,7 +72,7 @@ fn check_held<S: Store>(rt: &impl Abort, store: &S, kept: &Record) {
     assert!(rt; store.find(kept.at()));
     let mut place = record_with(rt, ELSEWHERE, &[9]);
     assert!(rt; store.read(kept.at(), &mut place));
-    check_row(rt, place.row(), kept.row());
+    assert_eq!(rt; place, *kept);
 }
 
 // A site month is neither found nor read, and the caller's place stays.
@@ -81,20 +81,17 @@ fn check_missing<S: Store>(rt: &impl Abort, store: &S, at: SiteMonth) {
     let before = record_with(rt, ELSEWHERE, &[9]);
     let mut place = before;
     assert!(rt; !store.read(at, &mut place));
-    check_row(rt, place.row(), before.row());
+    assert_eq!(rt; place, before);
 }
 
 fn check_kept<S: Store>(rt: &impl Abort, store: &mut S, kept: &Record) {
-    assert!(rt; store.keep(kept).is_ok());
+    assert_eq!(rt; store.keep(kept), Ok(()));
     check_held(rt, store, kept);
 }
 
 // A record is refused, since the store is full.
 fn check_full<S: Store>(rt: &impl Abort, store: &mut S, kept: &Record) {
-    match store.keep(kept) {
-        Ok(()) => panic!(rt; "kept"),
-        Err(fault) => check_refusal(rt, fault, (15, 6, 3)),
-    }
+    check_refused(rt, store.keep(kept), (15, 6, 3));
 }
 
 // The records of the first numbers are held.

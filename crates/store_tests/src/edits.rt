@@ -1,8 +1,8 @@
 // Records made and edited.
-use crate::compare::{check_refusal, check_row};
+use crate::compare::check_refused;
 use crate::samples::{AT, METERS, entry_of, reading_of, record_with, row_with};
 use crate::table::{Tried, check_all};
-use reading::{Entry, Fault};
+use reading::{Entry, Fault, SiteMonth};
 use record::{Record, Row, State};
 use std::process::Abort;
 
@@ -252,18 +252,8 @@ fn correction(meter: u16) -> Entry {
     }
 }
 
-fn check_fault(rt: &impl Abort, edited: Result<Record, Fault>, refusal: (u8, u8, u16)) {
-    match edited {
-        Ok(_) => panic!(rt; "accepted"),
-        Err(fault) => check_refusal(rt, fault, refusal),
-    }
-}
-
 fn check_edited(rt: &impl Abort, edited: Result<Record, Fault>, expected: &Row) {
-    match edited {
-        Ok(kept) => check_row(rt, kept.row(), expected),
-        Err(_) => panic!(rt; "refused"),
-    }
+    assert_eq!(rt; edited.expect(rt, "refused").row(), expected);
 }
 
 impl Tried for Added {
@@ -279,7 +269,7 @@ impl Tried for NotAdded {
     fn passes(&self, rt: &impl Abort) {
         let reading = reading_of(rt, correction(self.meter));
         let kept = record_with(rt, AT, self.meters);
-        check_fault(rt, kept.with(&reading), self.refusal);
+        check_refused(rt, kept.with(&reading), self.refusal);
     }
 }
 
@@ -301,11 +291,8 @@ impl Tried for Missing {
     fn passes(&self, rt: &impl Abort) {
         let kept = record_with(rt, AT, self.meters);
         let reading = reading_of(rt, correction(self.meter));
-        check_fault(rt, kept.replacing(&reading), NO_METER);
-        match kept.without(self.meter) {
-            Ok(_) => panic!(rt; "accepted"),
-            Err(fault) => check_refusal(rt, fault, NO_METER),
-        }
+        check_refused(rt, kept.replacing(&reading), NO_METER);
+        check_refused(rt, kept.without(self.meter), NO_METER);
     }
 }
 
@@ -313,13 +300,8 @@ impl Tried for TakenOut {
     fn passes(&self, rt: &impl Abort) {
         let step = self.0;
         let kept = record_with(rt, AT, step.before);
-        let Ok(left) = kept.without(step.meter) else {
-            panic!(rt; "refused")
-        };
-        match left {
-            Some(left) => check_row(rt, left.row(), &row_with(AT, step.after)),
-            None => panic!(rt; "nothing left"),
-        }
+        let left = record_with(rt, AT, step.after);
+        assert_eq!(rt; kept.without(step.meter), Ok(Some(left)));
     }
 }
 
@@ -350,29 +332,24 @@ fn readings_taken_out(rt: HostRuntime) {
 
 #[test]
 fn last_reading_taken_out(rt: HostRuntime) {
-    match record_with(&rt, AT, &[4]).without(4) {
-        Ok(left) => assert!(rt; left.is_none()),
-        Err(_) => panic!(rt; "refused"),
-    }
+    assert_eq!(rt; record_with(&rt, AT, &[4]).without(4), Ok(None));
 }
 
 #[test]
 fn new_of_one_reading(rt: HostRuntime) {
     let kept = Record::new(AT, &reading_of(&rt, entry_of(9)));
     assert!(rt; !kept.is_closed());
-    check_row(&rt, kept.row(), &row_with(AT, &[9]));
+    assert_eq!(rt; kept.row(), &row_with(AT, &[9]));
 }
 
 #[test]
 fn built_up_backward(rt: HostRuntime) {
     let mut kept = Record::new(AT, &reading_of(&rt, entry_of(65_535)));
     for meter in METERS.iter().rev().skip(1) {
-        let Ok(next) = kept.with(&reading_of(&rt, entry_of(*meter))) else {
-            panic!(rt; "refused")
-        };
-        kept = next;
+        let reading = reading_of(&rt, entry_of(*meter));
+        kept = kept.with(&reading).expect(&rt, "refused");
     }
-    check_row(&rt, kept.row(), &row_with(AT, &METERS));
+    assert_eq!(rt; kept.row(), &row_with(AT, &METERS));
 }
 
 #[test]
@@ -381,8 +358,8 @@ fn closing(rt: HostRuntime) {
     expected.state = State::Closed;
     let closed = record_with(&rt, AT, &[2, 4]).closed();
     assert!(rt; closed.is_closed());
-    check_row(&rt, closed.row(), &expected);
-    check_row(&rt, closed.closed().row(), &expected);
+    assert_eq!(rt; closed.row(), &expected);
+    assert_eq!(rt; closed.closed().row(), &expected);
 }
 
 #[test]
@@ -391,19 +368,20 @@ fn closed_stays_closed(rt: HostRuntime) {
     let mut expected = row_with(AT, &[2, 3, 4]);
     expected.state = State::Closed;
     check_edited(&rt, closed.with(&reading_of(&rt, entry_of(3))), &expected);
-    let Ok(left) = closed.without(2) else {
-        panic!(rt; "refused")
-    };
-    match left {
-        Some(left) => assert!(rt; left.is_closed()),
-        None => panic!(rt; "nothing left"),
-    }
+    let left = closed.without(2).expect(&rt, "refused");
+    assert!(rt; left.expect(&rt, "nothing left").is_closed());
 }
 
 #[test]
 fn parts(rt: HostRuntime) {
     let kept = record_with(&rt, AT, &[2, 4, 6]);
-    assert_eq!(rt; (kept.at().site, kept.at().month), (7, 252));
+    assert_eq!(rt;
+        kept.at(),
+        SiteMonth {
+            site: 7,
+            month: 252
+        }
+    );
     let readings = kept.readings();
     assert!(rt; readings.len() == 3);
     assert_eq!(rt;

@@ -1,11 +1,11 @@
 // Which images can be taken into use, and the flaw of those that cannot.
-use crate::compare::{check_refusal, told};
+use crate::compare::check_refused;
 use crate::known::{KNOWN_AT, known_closed_slot, known_slot, put};
 use crate::samples::record_with;
 use crate::table::{Tried, check_all};
 use reading::SiteMonth;
 use slot::{SLOT, encode};
-use std::alloc::Global;
+use slots::Flaw;
 use std::process::Abort;
 use std::test::*;
 
@@ -20,7 +20,7 @@ const ELSEWHERE: SiteMonth = SiteMonth { site: 1, month: 1 };
 #[derive(Clone, Copy)]
 struct Size {
     bytes: usize,
-    told: &'static str,
+    told: Result<(), Flaw>,
 }
 
 // Bytes written over those of a slot, which make it unlawful.
@@ -42,65 +42,65 @@ struct OverEmpty(Patch);
 #[derive(Clone, Copy)]
 struct Sites {
     sites: [u32; 5],
-    told: (&'static str, usize, usize),
+    told: Result<(), Flaw>,
 }
 
 const SIZES: [Size; 13] = [
     Size {
         bytes: 0,
-        told: "no slot",
+        told: Err(Flaw::NoSlot),
     },
     Size {
         bytes: 1,
-        told: "part slot",
+        told: Err(Flaw::PartSlot),
     },
     Size {
         bytes: 423,
-        told: "part slot",
+        told: Err(Flaw::PartSlot),
     },
     Size {
         bytes: 424,
-        told: "usable",
+        told: Ok(()),
     },
     Size {
         bytes: 425,
-        told: "part slot",
+        told: Err(Flaw::PartSlot),
     },
     Size {
         bytes: 847,
-        told: "part slot",
+        told: Err(Flaw::PartSlot),
     },
     Size {
         bytes: 848,
-        told: "usable",
+        told: Ok(()),
     },
     // 1,023 slots.
     Size {
         bytes: 433_752,
-        told: "usable",
+        told: Ok(()),
     },
     // One byte less than 1,024 slots, and just as many.
     Size {
         bytes: 434_175,
-        told: "part slot",
+        told: Err(Flaw::PartSlot),
     },
     Size {
         bytes: 434_176,
-        told: "usable",
+        told: Ok(()),
     },
     // One byte more.
     Size {
         bytes: 434_177,
-        told: "part slot",
+        told: Err(Flaw::PartSlot),
     },
     // 1,025 slots, and one byte more.
     Size {
         bytes: 434_600,
-        told: "too many slots",
+        told: Err(Flaw::TooManySlots),
     },
     Size {
         bytes: 434_601,
-        told: "part slot",
+        told: Err(Flaw::PartSlot),
     },
 ];
 
@@ -335,66 +335,66 @@ const NOT_EMPTY: [OverEmpty; 10] = [
 const SITES: [Sites; 11] = [
     Sites {
         sites: [1, 2, 3, 4, 5],
-        told: ("usable", 0, 0),
+        told: Ok(()),
     },
     Sites {
         sites: [0, 0, 0, 0, 9],
-        told: ("usable", 0, 0),
+        told: Ok(()),
     },
     // Adjacent.
     Sites {
         sites: [1, 1, 3, 4, 5],
-        told: ("twice", 0, 1),
+        told: Err(Flaw::Twice { slot: 0, again: 1 }),
     },
     Sites {
         sites: [1, 2, 3, 5, 5],
-        told: ("twice", 3, 4),
+        told: Err(Flaw::Twice { slot: 3, again: 4 }),
     },
     // The first and the last.
     Sites {
         sites: [1, 2, 3, 4, 1],
-        told: ("twice", 0, 4),
+        told: Err(Flaw::Twice { slot: 0, again: 4 }),
     },
     // Only empty slots between.
     Sites {
         sites: [0, 2, 0, 2, 0],
-        told: ("twice", 1, 3),
+        told: Err(Flaw::Twice { slot: 1, again: 3 }),
     },
     // Thrice.
     Sites {
         sites: [0, 2, 2, 0, 2],
-        told: ("twice", 1, 2),
+        told: Err(Flaw::Twice { slot: 1, again: 2 }),
     },
     // Two of them, apart.
     Sites {
         sites: [7, 7, 0, 8, 8],
-        told: ("twice", 0, 1),
+        told: Err(Flaw::Twice { slot: 0, again: 1 }),
     },
     // Two of them, one within the other: the first slot counts.
     Sites {
         sites: [1, 2, 2, 0, 1],
-        told: ("twice", 0, 4),
+        told: Err(Flaw::Twice { slot: 0, again: 4 }),
     },
     // Two of them, crossed.
     Sites {
         sites: [0, 1, 2, 1, 2],
-        told: ("twice", 1, 3),
+        told: Err(Flaw::Twice { slot: 1, again: 3 }),
     },
     // All of them.
     Sites {
         sites: [6, 6, 6, 6, 6],
-        told: ("twice", 0, 1),
+        told: Err(Flaw::Twice { slot: 0, again: 1 }),
     },
 ];
 
 // A slot is refused as the only one, and as the last of three behind a record and an empty slot.
 fn check_unlawful(rt: &impl Abort, slot: &[u8; SLOT]) {
-    assert_eq!(rt; told(slots::check(slot)), ("unlawful", 0, 0));
+    assert_eq!(rt; slots::check(slot), Err(Flaw::Unlawful { slot: 0 }));
     let good = encode(&record_with(rt, ELSEWHERE, &[1]));
     let mut bytes = [0; THREE];
     put(&mut bytes, 0, &good);
     put(&mut bytes, 2 * SLOT, slot);
-    assert_eq!(rt; told(slots::check(&bytes)), ("unlawful", 2, 0));
+    assert_eq!(rt; slots::check(&bytes), Err(Flaw::Unlawful { slot: 2 }));
 }
 
 impl Tried for OverKnown {
@@ -417,7 +417,7 @@ impl Tried for Sites {
     fn passes(&self, rt: &impl Abort) {
         let mut bytes = [0; FIVE];
         put_sites(rt, &mut bytes, &self.sites);
-        assert_eq!(rt; told(slots::check(&bytes)), self.told);
+        assert_eq!(rt; slots::check(&bytes), self.told);
     }
 }
 
@@ -438,20 +438,11 @@ fn put_sites(rt: &impl Abort, bytes: &mut [u8], sites: &[u32]) {
     }
 }
 
-// What is told of so many zero bytes.
-fn told_of_zeros(heap: Global, count: usize) -> Result<(&'static str, usize, usize), Fail> {
-    let bytes = vec![in heap; 0u8; count]?;
-    Ok(told(slots::check(&bytes)))
-}
-
 #[test]
 fn sizes(rt: HostRuntime) -> Result<(), Fail> {
     for (i, size) in SIZES.iter().enumerate() {
-        assert_eq!(rt;
-            told_of_zeros(rt.alloc(), size.bytes)?,
-            (size.told, 0, 0),
-            "size {i}"
-        );
+        let bytes = vec![in rt.alloc(); 0u8; size.bytes]?;
+        assert_eq!(rt; slots::check(&bytes), size.told, "size {i}");
     }
     Ok(())
 }
@@ -473,8 +464,8 @@ fn site_months(rt: HostRuntime) {
 
 #[test]
 fn lawful_slots(rt: HostRuntime) {
-    assert_eq!(rt; told(slots::check(&known_slot())), ("usable", 0, 0));
-    assert_eq!(rt; told(slots::check(&known_closed_slot())), ("usable", 0, 0));
+    assert_eq!(rt; slots::check(&known_slot()), Ok(()));
+    assert_eq!(rt; slots::check(&known_closed_slot()), Ok(()));
 }
 
 // The state and the readings make no other site month.
@@ -488,7 +479,10 @@ fn twice_open_and_closed(rt: HostRuntime) {
         2 * SLOT,
         &encode(&record_with(&rt, KNOWN_AT, &[5])),
     );
-    assert_eq!(rt; told(slots::check(&bytes)), ("twice", 0, 1));
+    assert_eq!(rt;
+        slots::check(&bytes),
+        Err(Flaw::Twice { slot: 0, again: 1 })
+    );
 }
 
 // A record of site 0 in month 0 is not the site month of an empty slot.
@@ -497,9 +491,12 @@ fn site_month_of_zeros(rt: HostRuntime) {
     let at = SiteMonth { site: 0, month: 0 };
     let mut bytes = [0; THREE];
     put(&mut bytes, SLOT, &encode(&record_with(&rt, at, &[5])));
-    assert_eq!(rt; told(slots::check(&bytes)), ("usable", 0, 0));
+    assert_eq!(rt; slots::check(&bytes), Ok(()));
     put(&mut bytes, 2 * SLOT, &encode(&record_with(&rt, at, &[6])));
-    assert_eq!(rt; told(slots::check(&bytes)), ("twice", 1, 2));
+    assert_eq!(rt;
+        slots::check(&bytes),
+        Err(Flaw::Twice { slot: 1, again: 2 })
+    );
 }
 
 // The size comes first, then the slots, and then the site months.
@@ -509,17 +506,15 @@ fn first_flaw(rt: HostRuntime) {
     put(&mut bytes, 0, &known_slot());
     put(&mut bytes, SLOT, &known_slot());
     put(&mut bytes, 2 * SLOT, b"\x03");
-    assert_eq!(rt; told(slots::check(&bytes)), ("unlawful", 2, 0));
-    assert_eq!(rt; told(slots::check(&bytes[0..1_271])), ("part slot", 0, 0));
+    assert_eq!(rt; slots::check(&bytes), Err(Flaw::Unlawful { slot: 2 }));
+    assert_eq!(rt; slots::check(&bytes[0..1_271]), Err(Flaw::PartSlot));
     put(&mut bytes, SLOT, b"\x03");
-    assert_eq!(rt; told(slots::check(&bytes)), ("unlawful", 1, 0));
+    assert_eq!(rt; slots::check(&bytes), Err(Flaw::Unlawful { slot: 1 }));
 }
 
 // The refusal that every flaw comes to.
 #[test]
 fn faults_of_flaws(rt: HostRuntime) {
-    match slots::check(&[]) {
-        Ok(()) => panic!(rt; "usable"),
-        Err(flaw) => check_refusal(&rt, flaw.fault(), (16, 6, 0)),
-    }
+    let checked = slots::check(&[]).map_err(Flaw::fault);
+    check_refused(&rt, checked, (16, 6, 0));
 }

@@ -1,5 +1,4 @@
 // An image as a store: what is written to its bytes.
-use crate::compare::{check_bytes, check_row};
 use crate::known::{known_record, known_slot, put};
 use crate::note::Noted;
 use crate::samples::record_with;
@@ -51,16 +50,11 @@ fn full_image(rt: &impl Abort) -> [u8; THREE] {
 }
 
 // One slot differs, and it has become this one.
-fn check_one(rt: &impl Abort, before: &[u8], after: &[u8], slot: &[u8; SLOT]) {
-    assert_eq!(rt; before.len(), after.len());
-    let mut differing = 0u8;
-    for (a, b) in before.chunks_exact(SLOT).zip(after.chunks_exact(SLOT)) {
-        if a != b {
-            differing = differing.saturating_add(1);
-            check_bytes(rt, b, slot);
-        }
-    }
-    assert_eq!(rt; differing, 1);
+fn check_one(rt: &impl Abort, before: &[u8; THREE], after: &[u8; THREE], slot: &[u8; SLOT]) {
+    let slots = before.chunks_exact(SLOT).zip(after.chunks_exact(SLOT));
+    let mut differing = slots.filter(|(a, b)| a != b);
+    assert_eq!(rt; differing.next().map(|(_, b)| b), Some(slot.as_slice()));
+    assert!(rt; differing.next().is_none());
 }
 
 #[test]
@@ -71,8 +65,8 @@ fn reading_writes_nothing(rt: HostRuntime) {
     let known = known_record(&rt);
     let mut place = sited(&rt, 1);
     assert!(rt; read(&rt, &mut bytes, known.at(), &mut place));
-    check_row(&rt, place.row(), known.row());
-    check_bytes(&rt, &bytes, &before);
+    assert_eq!(rt; place, known);
+    assert_eq!(rt; bytes, before);
 }
 
 // The record is kept, and becomes one slot.
@@ -103,7 +97,7 @@ fn refusing_writes_nothing(rt: HostRuntime) {
     let before = full_image(&rt);
     let mut bytes = before;
     assert!(rt; !keep(&rt, &mut bytes, &sited(&rt, 4)));
-    check_bytes(&rt, &bytes, &before);
+    assert_eq!(rt; bytes, before);
 }
 
 #[test]
@@ -111,7 +105,7 @@ fn missing_writes_nothing(rt: HostRuntime) {
     let before = full_image(&rt);
     let mut bytes = before;
     assert!(rt; !remove(&rt, &mut bytes, sited(&rt, 4).at()));
-    check_bytes(&rt, &bytes, &before);
+    assert_eq!(rt; bytes, before);
 }
 
 #[test]
@@ -130,5 +124,5 @@ fn kept_and_removed(rt: HostRuntime) {
     let mut bytes = [0; THREE];
     assert!(rt; keep(&rt, &mut bytes, &sited(&rt, 1)));
     assert!(rt; remove(&rt, &mut bytes, sited(&rt, 1).at()));
-    check_bytes(&rt, &bytes, &[0; THREE]);
+    assert_eq!(rt; bytes, [0; THREE]);
 }

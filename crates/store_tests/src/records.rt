@@ -1,8 +1,7 @@
 // Which rows are records.
-use crate::compare::check_row;
 use crate::samples::{AT, METERS, entry_of, row_of, row_with};
 use crate::table::{Tried, check_all};
-use reading::{Entry, SiteMonth};
+use reading::{Entry, SiteMonth, Unlawful};
 use record::{BLANK, Record, Row, State, VACANT};
 use std::process::Abort;
 
@@ -349,12 +348,12 @@ const HEADINGS: [Heading; 11] = [
 
 // The row is a record of just that row, or no record.
 fn check_lawful(rt: &impl Abort, row: &Row, lawful: bool) {
-    match Record::check(*row) {
-        Some(kept) => {
+    match Record::try_from(*row) {
+        Ok(kept) => {
             assert!(rt; lawful);
-            check_row(rt, kept.row(), row);
+            assert_eq!(rt; kept.row(), row);
         }
-        None => assert!(rt; !lawful),
+        Err(Unlawful) => assert!(rt; !lawful),
     }
 }
 

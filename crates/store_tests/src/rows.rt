@@ -1,5 +1,5 @@
 // Rows as a store: which can be taken into use, and what is written to them.
-use crate::compare::{check_refusal, check_row, same_row};
+use crate::compare::check_refused;
 use crate::note::Noted;
 use crate::samples::record_with;
 use reading::{Entry, SiteMonth};
@@ -93,30 +93,17 @@ fn keep_all<S: Store>(rt: &impl Abort, store: &mut S, sites: &[u32]) {
 
 // One row differs, and it has become this one.
 fn check_one(rt: &impl Abort, before: &[Row; 3], after: &[Row; 3], row: &Row) {
-    let mut differing = 0u8;
-    for (a, b) in before.iter().zip(after.iter()) {
-        if !same_row(a, b) {
-            differing = differing.saturating_add(1);
-            check_row(rt, b, row);
-        }
-    }
-    assert_eq!(rt; differing, 1);
-}
-
-fn check_same(rt: &impl Abort, before: &[Row; 3], after: &[Row; 3]) {
-    for (a, b) in before.iter().zip(after.iter()) {
-        check_row(rt, b, a);
-    }
+    let mut differing = before.iter().zip(after.iter()).filter(|(a, b)| a != b);
+    assert_eq!(rt; differing.next().map(|(_, b)| b), Some(row));
+    assert!(rt; differing.next().is_none());
 }
 
 fn check_count(rt: &impl Abort, heap: Global, count: Count) -> Result<(), Fail> {
     let rows = vec![in heap; JUNK; count.rows]?;
-    match Rows::check(&rows) {
-        Ok(()) => assert!(rt; count.usable),
-        Err(fault) => {
-            assert!(rt; !count.usable);
-            check_refusal(rt, fault, (16, 6, 0));
-        }
+    if count.usable {
+        assert_eq!(rt; Rows::check(&rows), Ok(()));
+    } else {
+        check_refused(rt, Rows::check(&rows), (16, 6, 0));
     }
     Ok(())
 }
@@ -136,7 +123,7 @@ fn opening_empties(rt: HostRuntime) {
     assert_eq!(rt; store.capacity(), 3);
     assert!(rt; !store.find(JUNK.at));
     drop(store);
-    check_same(&rt, &[VACANT; 3], &rows);
+    assert_eq!(rt; rows, [VACANT; 3]);
 }
 
 #[test]
@@ -153,12 +140,12 @@ fn keeping_writes_one_row(rt: HostRuntime) {
 #[test]
 fn keeping_again_writes_its_own_row(rt: HostRuntime) {
     let full = rows_with(&rt, &[1, 2, 3]);
-    check_same(&rt, &full, &rows_with(&rt, &[1, 2, 3, 2, 1]));
+    assert_eq!(rt; rows_with(&rt, &[1, 2, 3, 2, 1]), full);
     let mut rows = [VACANT; 3];
     let closed = sited(&rt, 2).closed();
     let mut store = Rows::open(&mut rows);
     keep_all(&rt, &mut store, &[1, 2, 3]);
-    assert!(rt; store.keep(&closed).is_ok());
+    assert_eq!(rt; store.keep(&closed), Ok(()));
     drop(store);
     check_one(&rt, &full, &rows, closed.row());
 }
@@ -166,7 +153,7 @@ fn keeping_again_writes_its_own_row(rt: HostRuntime) {
 #[test]
 fn refusing_writes_nothing(rt: HostRuntime) {
     let full = rows_with(&rt, &[1, 2, 3]);
-    check_same(&rt, &full, &rows_with(&rt, &[1, 2, 3, 4]));
+    assert_eq!(rt; rows_with(&rt, &[1, 2, 3, 4]), full);
 }
 
 #[test]

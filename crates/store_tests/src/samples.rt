@@ -1,6 +1,7 @@
 // Readings, rows and records to test with.
 use reading::{Entry, Reading, SiteMonth};
-use record::{Record, Row, State, VACANT};
+use record::{BLANK, READINGS, Record, Row, State};
+use std::array;
 use std::process::Abort;
 
 pub(crate) const AT: SiteMonth = SiteMonth {
@@ -30,45 +31,32 @@ pub(crate) fn entry_of(meter: u16) -> Entry {
 }
 
 pub(crate) fn reading_of(rt: &impl Abort, entry: Entry) -> Reading {
-    match Reading::check(entry) {
-        Some(reading) => reading,
-        None => panic!(rt; "no reading"),
-    }
+    Reading::try_from(entry).expect(rt, "no reading")
 }
 
 // An open row of a site month with these entries, lawful or not, all of them in use.
 pub(crate) fn row_of(at: SiteMonth, entries: &[Entry]) -> Row {
-    let mut row = Row {
-        at,
-        state: State::Open,
-        count: entries.len(),
-        ..VACANT
-    };
-    for (place, entry) in row.entries.iter_mut().zip(entries.iter()) {
-        *place = *entry;
-    }
-    row
+    let all = array::from_fn(|i| entries.get(i).copied().unwrap_or(BLANK));
+    opened(at, entries.len(), all)
 }
 
 // An open row of a site month with a reading of each meter.
 pub(crate) fn row_with(at: SiteMonth, meters: &[u16]) -> Row {
-    let mut row = Row {
+    let all = array::from_fn(|i| meters.get(i).map_or(BLANK, |meter| entry_of(*meter)));
+    opened(at, meters.len(), all)
+}
+
+fn opened(at: SiteMonth, count: usize, entries: [Entry; READINGS]) -> Row {
+    Row {
         at,
         state: State::Open,
-        count: meters.len(),
-        ..VACANT
-    };
-    for (place, meter) in row.entries.iter_mut().zip(meters.iter()) {
-        *place = entry_of(*meter);
+        count,
+        entries,
     }
-    row
 }
 
 pub(crate) fn record_of(rt: &impl Abort, row: Row) -> Record {
-    match Record::check(row) {
-        Some(kept) => kept,
-        None => panic!(rt; "no record"),
-    }
+    Record::try_from(row).expect(rt, "no record")
 }
 
 // An open record of a site month with a reading of each meter.

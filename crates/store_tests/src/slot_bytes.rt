@@ -1,9 +1,8 @@
 // A record as the bytes of a slot, and back.
-use crate::compare::{check_bytes, check_row};
 use crate::known::{KNOWN_AT, known_closed_slot, known_record, known_slot};
 use crate::samples::{AT, METERS, record_with};
 use record::Record;
-use slot::{SLOT, decode, encode, head};
+use slot::{BadSlot, SLOT, decode, encode, head};
 use std::process::Abort;
 use std::test::*;
 
@@ -13,14 +12,8 @@ const LAST_BYTES: &[u8] =
 
 // The slot has the record, and the record has the slot.
 fn check_slot(rt: &impl Abort, slot: &[u8; SLOT], kept: &Record) {
-    check_bytes(rt, &encode(kept), slot);
-    let Ok(found) = decode(slot) else {
-        panic!(rt; "refused")
-    };
-    match found {
-        Some(found) => check_row(rt, found.row(), kept.row()),
-        None => panic!(rt; "empty"),
-    }
+    assert_eq!(rt; encode(kept), *slot);
+    assert_eq!(rt; decode(slot), Ok(Some(*kept)));
 }
 
 #[test]
@@ -37,40 +30,31 @@ fn closed_slot(rt: HostRuntime) {
 fn full_slot(rt: HostRuntime) {
     let kept = record_with(&rt, AT, &METERS);
     let slot = encode(&kept);
-    check_bytes(&rt, &slot[0..8], b"\x01\x10\x00\x00\x00\x07\x00\xFC");
-    check_bytes(&rt, &slot[398..424], LAST_BYTES);
+    assert_eq!(rt; &slot[0..8], b"\x01\x10\x00\x00\x00\x07\x00\xFC".as_slice());
+    assert_eq!(rt; &slot[398..424], LAST_BYTES);
     check_slot(&rt, &slot, &kept);
 }
 
 #[test]
 fn empty_slot(rt: HostRuntime) {
-    match decode(&[0; SLOT]) {
-        Ok(found) => assert!(rt; found.is_none()),
-        Err(_) => panic!(rt; "refused"),
-    }
+    assert_eq!(rt; decode(&[0; SLOT]), Ok(None));
 }
 
 #[test]
 fn parts_of_slots(rt: HostRuntime) {
     let slot = known_slot();
-    assert!(rt; decode(&[]).is_err());
-    assert!(rt; decode(&slot[0..8]).is_err());
-    assert!(rt; decode(&slot[0..423]).is_err());
-    assert!(rt; decode(&[0; 423]).is_err());
-    assert!(rt; decode(&[0; 425]).is_err());
+    assert_eq!(rt; decode(&[]), Err(BadSlot));
+    assert_eq!(rt; decode(&slot[0..8]), Err(BadSlot));
+    assert_eq!(rt; decode(&slot[0..423]), Err(BadSlot));
+    assert_eq!(rt; decode(&[0; 423]), Err(BadSlot));
+    assert_eq!(rt; decode(&[0; 425]), Err(BadSlot));
 }
 
 #[test]
-fn heads(rt: HostRuntime) -> Result<(), Fail> {
+fn heads(rt: HostRuntime) {
     let slot = known_slot();
-    assert!(rt; head(&[0; SLOT]).is_none());
-    assert!(rt; head(&slot[0..7]).is_none());
-    let at = head(&slot[0..8]).ok_or("no head")?;
-    assert_eq!(rt; (at.site, at.month), (KNOWN_AT.site, KNOWN_AT.month));
-    let closed = head(&known_closed_slot()).ok_or("no head")?;
-    assert_eq!(rt;
-        (closed.site, closed.month),
-        (KNOWN_AT.site, KNOWN_AT.month)
-    );
-    Ok(())
+    assert_eq!(rt; head(&[0; SLOT]), None);
+    assert_eq!(rt; head(&slot[0..7]), None);
+    assert_eq!(rt; head(&slot[0..8]), Some(KNOWN_AT));
+    assert_eq!(rt; head(&known_closed_slot()), Some(KNOWN_AT));
 }
