@@ -109,7 +109,8 @@ length_taken meter (f ∷ es) h =
 differ : (m : ℕ) (e f : Entry) → of_meter m e ≡ true → of_meter m f ≡ true → e.meter ≡ f.meter
 differ m e f h k = eqb-true e.meter m h ∙ sym (eqb-true f.meter m k)
 
-swap : {A : Type 0} (s t : Bool) (x y z : A) → (s ≡ true → t ≡ true → ⊥) → cond s x (cond t y z) ≡ cond t y (cond s x z)
+-- Two choices of which at most one is made can be taken in either order.
+pub swap : {A : Type 0} (s t : Bool) (x y z : A) → (s ≡ true → t ≡ true → ⊥) → cond s x (cond t y z) ≡ cond t y (cond s x z)
 swap true true x y z h = absurd (h refl refl)
 swap true false x y z h = refl
 swap false true x y z h = refl

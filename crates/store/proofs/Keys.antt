@@ -1,5 +1,5 @@
 -- Site months as keys, and what is held under them.
-use Rattle.std.proofs.Common.{◌≡◌, ℕ, Bool, true, false, cond, eqb, List, ◌∷◌, is_some, Some, None, Option, sym, refl, ap, ◌∙◌, ap₂}
+use Rattle.std.proofs.Common.{◌≡◌, ℕ, Bool, true, false, eqb, List, ◌∷◌, is_some, Some, None, Option, sym, refl, ap, ◌∙◌, ap₂}
 use Rattle.std.proofs.lemmas.Bool.{and_parts, and_from, eqb-true, eq-eqb, both_ways, cond-true, cond-false}
 use Rattle.reading.specs.declared.site_month.SiteMonth.{SiteMonth}
 use Rattle.record.specs.Holding.{Holding, same}
@@ -27,13 +27,6 @@ same_both at x y h k =
 
 pub same_turned : (x y : SiteMonth) → same x y ≡ true → same y x ≡ true
 same_turned x y h = ap₂ same (sym (same_is x y h)) (same_is x y h) ∙ h
-
--- Two choices under different keys can be taken in either order.
-pub swap : {A : Type 0} (s t : Bool) (x y z : A) → (s ≡ true → t ≡ true → ⊥) → cond s x (cond t y z) ≡ cond t y (cond s x z)
-swap true true x y z h = absurd (h refl refl)
-swap true false x y z h = refl
-swap false true x y z h = refl
-swap false false x y z h = refl
 
 pub none_held : (o : Option Holding) → is_some o ≡ false → o ≡ None
 none_held None h = refl

@@ -3,13 +3,14 @@ use Rattle.std.proofs.Common.{◌≡◌, ℕ, zero, suc, ◌+◌, ◌<◌, ◌�
 use Rattle.std.specs.List.{list_all}
 use Rattle.std.proofs.lemmas.Bool.{and_parts, and_from, both_ways, cond-true, cond-false, cond_both, not_from_false, not-true, or_cases}
 use Rattle.reading.specs.declared.site_month.SiteMonth.{SiteMonth}
+use Rattle.record.proofs.Editing.{swap}
 use Rattle.record.specs.Holding.{Holding, same, lawful_holding}
 use Rattle.record.specs.Rows.{holding, padded, lawful_row, is_vacant, tidy, vacant, keyed}
 use Rattle.record.specs.States.{used}
 use Rattle.record.specs.declared.row.Row.{Row}
 use Rattle.store.specs.Meaning.{look_up, holds, once}
 use Rattle.store.specs.Table.{held_in, lawful_table}
-use Rattle.store.proofs.Keys.{same_both, same_is, same_turned, swap, none_held}
+use Rattle.store.proofs.Keys.{same_both, same_is, same_turned, none_held}
 
 -- The record of a row, if it is in use.
 abbrev pub own : Row → Option Holding
