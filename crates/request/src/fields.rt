@@ -9,7 +9,10 @@ ghost use Rattle.request.specs.Tests.{limit_test, excess_test};
 
 use crate::limit::{Limit, check_limits};
 use frame::{Field, Frame};
-use reading::{Entry, Fault, Reading, SiteMonth, load_size, nearest_kw};
+use reading::{
+    Entry, Fault, LAST_MONTH, MOST_DEMAND, MOST_FLAGS, MOST_KVAR, MOST_KWH, MOST_POWER_FACTOR,
+    Reading, SiteMonth, load_size, nearest_kw,
+};
 use std::array;
 
 const SITE: Field = Field { byte: 3, width: 4 };
@@ -36,34 +39,34 @@ const POWER_FACTOR: Field = Field { byte: 32, width: 1 };
 
 const MONTH_LIMIT: Limit = Limit {
     field: MONTH,
-    most: 2_399,
+    most: LAST_MONTH as u32,
 };
 
 // Those of a reading but for the month and the earlier demands, in the order of their bytes.
 const READING_LIMITS: [Limit; 6] = [
     Limit {
         field: FLAGS,
-        most: 15,
+        most: MOST_FLAGS as u32,
     },
     Limit {
         field: KWH,
-        most: 999_999,
+        most: MOST_KWH,
     },
     Limit {
         field: DEMAND,
-        most: 99_999,
+        most: MOST_DEMAND,
     },
     Limit {
         field: PEAK_DEMAND,
-        most: 99_999,
+        most: MOST_DEMAND,
     },
     Limit {
         field: KVAR,
-        most: 9_999,
+        most: MOST_KVAR as u32,
     },
     Limit {
         field: POWER_FACTOR,
-        most: 100,
+        most: MOST_POWER_FACTOR as u32,
     },
 ];
 
