@@ -26,10 +26,11 @@ use Rattle.oregon.specs.Products.{three_bounded}
 use Rattle.oregon.specs.Tables.{kw_rates, kwh_rates, row_bounded, floors_bounded}
 
 -- A reading that the book serves weighs what its schedule says.
-pub weight_served : (card : Values) (e : Entry) (line w : ℕ) (s : Schedule) → None ≡ check e → schedule_of e.schedule ≡ Some s → w ≡ metered card s e line → w ≡ weight card e line
-weight_served card e line w s fine is h =
+pub weight_served : (card : Values) (e entry : Entry) (line w : ℕ) (s : Schedule) → e ≡ entry → None ≡ check e → schedule_of e.schedule ≡ Some s → w ≡ metered card s e line → w ≡ weight card entry line
+weight_served card e entry line w s same fine is h =
     h ∙ ap (λ o. on_schedule o (λ s. metered card s e line)) (sym is)
     ∙ ap (λ o. cond (is_some o) 0 (on_schedule (schedule_of e.schedule) (λ s. metered card s e line))) fine
+    ∙ ap (λ x. weight card x line) same
 
 factor_bounded : (e : Entry) → factor e ≤ 10157
 factor_bounded e = grind (arith, nat_tests)
@@ -110,8 +111,11 @@ rider_bounded table s e l h = omega (arith, per_kwh_bounded (rate table (place s
 floor_bounded : (s : Schedule) (e : Entry) → Limits e → floor s e ≤ 10 ^ 15
 floor_bounded s e l = omega (arith, rounded_bounded (credit s e) (credit_bounded s e l))
 
+fit_at : (rates : List ℕ) (i : ℕ) → rates_fit rates ≡ true → slice_index rates i ≤ 65535
+fit_at rates i h = row_bounded 65535 rates i h
+
 at_card_bounded : (rates : List ℕ) (s : Schedule) (e : Entry) → Limits e → rates_fit rates ≡ true → at_card rates s e ≤ 10 ^ 15
-at_card_bounded rates s e l h = omega (arith, per_kwh_bounded (slice_index rates (place s)) e.kwh e (row_bounded 65535 rates (place s) h) l.kwh)
+at_card_bounded rates s e l h = omega (arith, per_kwh_bounded (slice_index rates (place s)) e.kwh e (fit_at rates (place s) h) l.kwh)
 
 -- The lesser of a cap and what rises.
 capped_rises : (b : Bool) (cap m n : ℕ) → m ≤ n → cond b (min cap m) m ≤ cond b (min cap n) n

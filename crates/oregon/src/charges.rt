@@ -11,6 +11,8 @@ use crate::service::Service;
 use book::{CENT, half_up};
 use oregon_card::Schedule;
 
+// The bands are matches on ranges, as the sheets have them: one search in a table of their ends is no plainer.
+
 // The band of the load size on 28 and 728.
 fn band_28(load: u16) -> usize
     ensures { result ≡ band_28 load }

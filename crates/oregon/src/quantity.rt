@@ -59,7 +59,8 @@ impl Service {
         u64::from(rate) * u64::from(kwh) * u64::from(self.factor())
     }
 
-    // A rate in cents for each kW as adjusted, in units.
+    // A rate in cents for each kW as adjusted, in units. Joined with `per_kwh` it would take the unit and the width of the
+    // quantity as arguments, which is no plainer.
     pub(crate) fn per_kw(&self, rate: u16, kw: u16) -> u64
         requires { kw ≤ 10000 }
         ensures value { result ≡ per_kw rate kw self.now.entry }

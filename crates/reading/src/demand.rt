@@ -2,7 +2,8 @@
 ghost use Rattle.std.specs.Prelude.{◌≡◌, ◌∷◌};
 ghost use Rattle.reading.specs.Demand.{Nearest, kw_nearest, load_of};
 
-// A demand in tenths of a kW to the nearest kW, a half going up.
+// A demand in tenths of a kW to the nearest kW, a half going up. Cents are rounded alike, in `book`: one function of both
+// would take the unit as an argument, which is no plainer.
 pub fn nearest_kw(tenths: u32) -> u32
     ensures value { result ≡ kw_nearest tenths }
     ensures nearest { Nearest tenths result }
