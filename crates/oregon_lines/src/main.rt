@@ -17,7 +17,8 @@ fn main(rt: HostRuntime) -> io::Result<()> {
     }
 }
 
-// Answers a line as a card, which is found if it is accepted.
+// Answers a line as a card, which is found if it is accepted. oregon_serve has this step too: what the two share is
+// `take_card`, and a crate of its own for the rest would be no plainer.
 fn answer_card(line: &[u8], buffer: &mut [u8; BUFFER]) -> Answered<Card> {
     let Ok(reply) = take_card(line, buffer) else {
         unreachable()
