@@ -1,5 +1,5 @@
 -- A slot of an image written over, as a change of a store.
-use Rattle.std.proofs.Common.{◌≡◌, ℕ, ◌<◌, true, false, List, length, get_or, set, replicate, Ok, sym, refl, ap, ◌∙◌, subst, arith}
+use Rattle.std.proofs.Common.{◌≡◌, ℕ, ◌<◌, true, false, ◌⊎◌, List, length, get_or, set, replicate, Ok, sym, refl, ap, ◌∙◌, subst, arith}
 use Rattle.reading.specs.declared.site_month.SiteMonth.{SiteMonth}
 use Rattle.record.specs.Rows.{holding, keyed, lawful_row, vacant}
 use Rattle.record.specs.States.{used}
@@ -8,7 +8,7 @@ use Rattle.slot.specs.Reading.{row_in, lawful_slot}
 use Rattle.store.specs.Changes.{Kept, Removed}
 use Rattle.store.specs.Meaning.{holds}
 use Rattle.store.specs.Table.{held_in, lawful_table, table_meaning}
-use Rattle.store.proofs.Stored.{kept_again, kept_again_lawful, kept_new, kept_new_lawful, removed_row, removed_lawful}
+use Rattle.store.proofs.Stored.{kept_in, kept_in_lawful, removed_row, removed_lawful}
 use Rattle.slots.specs.Cuts.{slot_count, table_of, lawful_image, put_slot}
 use Rattle.slots.proofs.Cutting.{table_long, table_put}
 use Rattle.slots.proofs.Imaged.{table_is_lawful, put_lawful}
@@ -25,25 +25,15 @@ module _ (bytes : List ℕ) (lawful : lawful_image bytes ≡ true) (i : ℕ) (wi
     stays : lawful_table (set (table_of bytes) i row) ≡ true → lawful_image (put_slot i slot bytes) ≡ true
     stays h = put_lawful bytes i slot lawful within ok long (ap (λ r. lawful_table (set (table_of bytes) i r)) is ∙ h)
 
-    -- A record in its own slot.
-    module _ (fit : lawful_row row ≡ true) (has : keyed row.at (get_or (table_of bytes) i vacant) ≡ true) where
-      pub again_lawful : lawful_image (put_slot i slot bytes) ≡ true
-      again_lawful = stays (kept_again_lawful (table_of bytes) (table_is_lawful bytes lawful) i inside row fit has)
+    -- A record in its own slot or an empty one.
+    module _ (fit : lawful_row row ≡ true) (room : (keyed row.at (get_or (table_of bytes) i vacant) ≡ true) ⊎ ((holds row.at (held_in (table_of bytes)) ≡ false) × (used (get_or (table_of bytes) i vacant).state ≡ false))) where
+      pub kept_lawful : lawful_image (put_slot i slot bytes) ≡ true
+      kept_lawful = stays (kept_in_lawful (table_of bytes) (table_is_lawful bytes lawful) i inside row fit room)
 
-      pub again_kept : Kept (table_meaning (table_of bytes)) (holding row) (table_meaning (table_of (put_slot i slot bytes))) (Ok tt)
-      again_kept =
+      pub kept : Kept (table_meaning (table_of bytes)) (holding row) (table_meaning (table_of (put_slot i slot bytes))) (Ok tt)
+      kept =
           subst (λ rows. Kept (table_meaning (table_of bytes)) (holding row) (table_meaning rows) (Ok tt)) (sym written)
-          (kept_again (table_of bytes) (table_is_lawful bytes lawful) i inside row fit has)
-
-    -- A record in an empty slot.
-    module _ (fit : lawful_row row ≡ true) (free : used (get_or (table_of bytes) i vacant).state ≡ false) (none : holds row.at (held_in (table_of bytes)) ≡ false) where
-      pub new_lawful : lawful_image (put_slot i slot bytes) ≡ true
-      new_lawful = stays (kept_new_lawful (table_of bytes) (table_is_lawful bytes lawful) i inside row fit free none)
-
-      pub new_kept : Kept (table_meaning (table_of bytes)) (holding row) (table_meaning (table_of (put_slot i slot bytes))) (Ok tt)
-      new_kept =
-          subst (λ rows. Kept (table_meaning (table_of bytes)) (holding row) (table_meaning rows) (Ok tt)) (sym written)
-          (kept_new (table_of bytes) (table_is_lawful bytes lawful) i inside row fit free none)
+          (kept_in (table_of bytes) (table_is_lawful bytes lawful) i inside row fit room)
 
   -- A slot emptied.
   module _ (at : SiteMonth) (has : keyed at (get_or (table_of bytes) i vacant) ≡ true) where

@@ -2,6 +2,5 @@
 #![tactic(auto)]
 
 mod image;
-mod lent;
 
 pub use image::Image;

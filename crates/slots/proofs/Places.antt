@@ -1,11 +1,10 @@
 -- Searches through the rows of an image, and what its flaws say of it.
-use Rattle.std.proofs.Common.{◌≡◌, ℕ, suc, ◌+◌, ◌-◌, ◌%◌, ◌<◌, ◌≤◌, Bool, true, false, cond, not, ◌&&◌, eqb, ltb, leb, List, [], ◌∷◌, map, length, get_or, drop, is_some, is_ok, Some, None, Ok, Err, Option, Result, sym, refl, ap, ◌∙◌, arith, rules, MatchOption}
+use Rattle.std.proofs.Common.{◌≡◌, ℕ, ◌+◌, ◌%◌, ◌<◌, Bool, true, false, cond, not, ◌&&◌, eqb, ltb, leb, List, [], ◌∷◌, map, length, get_or, drop, is_some, is_ok, Some, None, Ok, Err, Option, Result, sym, refl, ap, ◌∙◌, arith}
 use Rattle.std.specs.Option.{option_map}
 use Rattle.std.specs.Result.{result_err}
 use Rattle.std.specs.List.{list_all, position, position_from}
 use Rattle.std.proofs.lemmas.Iterator.Adapters.{position_from-zero}
-use Rattle.std.proofs.lemmas.List.{drop_more, drop-map, length-map, get_or-map}
-use Rattle.std.proofs.lemmas.List.Quantifiers.{position-Some}
+use Rattle.std.proofs.lemmas.List.{drop_more, drop-map}
 use Rattle.std.proofs.lemmas.Bool.{not-true, not-false}
 use Rattle.std.proofs.lemmas.Bool.Decides.{nat_tests}
 use Rattle.reading.specs.declared.site_month.SiteMonth.{SiteMonth}
@@ -16,14 +15,15 @@ use Rattle.slot.specs.Reading.{row_in, lawful_slot, head_in}
 use Rattle.slot.proofs.Rows.{head_is}
 use Rattle.store.specs.Meaning.{look_up, holds, once}
 use Rattle.store.specs.Table.{held_in, Found, Free}
-use Rattle.store.proofs.Tables.{look_first, holds_from}
+use Rattle.store.proofs.Searching.{is_free, found_position, free_position}
+use Rattle.store.proofs.Tables.{look_first}
 use Rattle.slots.specs.declared.flaw.Flaw.{Flaw}
 use Rattle.slots.specs.declared.flaw.Flaw.TheVariants.{PartSlot, NoSlot, TooManySlots, Unlawful, Twice}
 use Rattle.slots.specs.Cuts.{slot_count, slots_of, table_of, lawful_image}
 use Rattle.slots.proofs.Cutting.{slot_is, slot_long, row_at}
 use Rattle.slots.specs.Flaws.{otherwise, size_flaw, unlawful_from, place_from, again, twice_from, flaw_of}
 
--- A search through slots by position, counted from n on.
+-- A search by position, counted from n on, and one of what the elements are mapped to.
 position_on : {X : Type 0} (p : X → Bool) (n i : ℕ) (xs : List X) → option_map (λ k. n + k) (position_from p i xs) ≡ position_from p (n + i) xs
 position_on p n i [] = refl
 position_on p n i (x ∷ xs) = by (p x) (position_on p n (i + 1) xs ∙ ap (λ m. position_from p m xs) (omega arith))
@@ -32,58 +32,27 @@ position_on p n i (x ∷ xs) = by (p x) (position_on p n (i + 1) xs ∙ ap (λ m
     by true rest = refl
     by false rest = rest
 
-place_rows : (at : SiteMonth) (i : ℕ) (slots : List (List ℕ)) → position_from (λ slot. keyed at (row_in slot)) i slots ≡ place_from i at (map row_in slots)
-place_rows at i [] = refl
-place_rows at i (slot ∷ slots) = ap (λ o. cond (keyed at (row_in slot)) (Some i) o) (place_rows at (i + 1) slots)
+position_map : {X Y : Type 0} (p : Y → Bool) (f : X → Y) (i : ℕ) (xs : List X) → position_from (λ x. p (f x)) i xs ≡ position_from p i (map f xs)
+position_map p f i [] = refl
+position_map p f i (x ∷ xs) = ap (λ o. cond (p (f x)) (Some i) o) (position_map p f (i + 1) xs)
 
+-- The first slot from number n on that has a site month.
 pub placed : (at : SiteMonth) (bytes : List ℕ) (n : ℕ) (later : List (List ℕ)) (found : Option ℕ) → later ≡ drop n (slots_of bytes) → found ≡ position (λ slot. keyed at (row_in slot)) later → option_map (λ k. n + k) found ≡ place_from n at (drop n (table_of bytes))
 placed at bytes n later found rest is =
     let p = λ (slot : List ℕ). keyed at (row_in slot) in
     let shift : n + 0 ≡ n = omega arith in
-    ap (option_map (λ k. n + k)) (is ∙ position_from-zero p later) ∙ position_on p n 0 later ∙ ap (λ m. position_from p m later) shift ∙ place_rows at n later
+    ap (option_map (λ k. n + k)) (is ∙ position_from-zero p later) ∙ position_on p n 0 later ∙ ap (λ m. position_from p m later) shift ∙ position_map (keyed at) row_in n later
     ∙ ap (place_from n at) (ap (map row_in) rest ∙ sym (drop-map row_in n (slots_of bytes)))
 
--- The first vacant slot.
-abbrev vacant_slot : List ℕ → Bool
-vacant_slot slot = not (used (row_in slot).state)
-
-none_vacant : (i : ℕ) (slots : List (List ℕ)) → position_from vacant_slot i slots ≡ None → list_all (λ (row : Row). used row.state) (map row_in slots) ≡ true
-none_vacant i [] h = refl
-none_vacant i (slot ∷ slots) h = by (used (row_in slot).state) h (none_vacant (i + 1) slots)
-  where
-    by : (t : Bool) → cond (not t) (Some i) (position_from vacant_slot (i + 1) slots) ≡ None → (position_from vacant_slot (i + 1) slots ≡ None → list_all (λ (row : Row). used row.state) (map row_in slots) ≡ true) → t && list_all (λ (row : Row). used row.state) (map row_in slots) ≡ true
-    by true k rest = rest k
-    by false k rest = absurd (search rules)
-
-pub first_vacant : (slots : List (List ℕ)) (o : Option ℕ) → o ≡ position vacant_slot slots → Free (map row_in slots) o
-first_vacant slots None h = none_vacant 0 slots (sym (position_from-zero vacant_slot slots) ∙ sym h)
-first_vacant slots (Some i) h =
-    let found = position-Some vacant_slot slots i [] (sym h) in
-    let within = found.0 in
-    (let n = length-map slots row_in in omega arith, ap (λ (row : Row). used row.state) (get_or-map row_in slots i [] vacant within) ∙ not-true _ found.1)
-
 -- A search from the first row on finds the row, or there is none.
-place_found : (i : ℕ) (at : SiteMonth) (rows : List Row) → MatchOption (place_from i at rows) (holds at (held_in rows) ≡ false) (λ k. (i ≤ k) × (k - i < length rows) × (keyed at (get_or rows (k - i) vacant) ≡ true))
-place_found i at [] = refl
-place_found i at (row ∷ rows) = by (keyed at row) refl (place_found (i + 1) at rows)
-  where
-    here : keyed at row ≡ true → (i ≤ i) × (i - i < length (row ∷ rows)) × (keyed at (get_or (row ∷ rows) (i - i) vacant) ≡ true)
-    here is = let z : i - i ≡ 0 = omega arith in (omega arith, omega arith, ap (λ k. keyed at (get_or (row ∷ rows) k vacant)) z ∙ is)
-
-    later : keyed at row ≡ false → (o : Option ℕ) → MatchOption o (holds at (held_in rows) ≡ false) (λ k. (i + 1 ≤ k) × (k - (i + 1) < length rows) × (keyed at (get_or rows (k - (i + 1)) vacant) ≡ true)) → MatchOption o (holds at (held_in (row ∷ rows)) ≡ false) (λ k. (i ≤ k) × (k - i < length (row ∷ rows)) × (keyed at (get_or (row ∷ rows) (k - i) vacant) ≡ true))
-    later is None h = holds_from at row rows is h
-    later is (Some k) h = let p = h.0 in let q = h.1 in let z : k - i ≡ suc (k - (i + 1)) = omega arith in (omega arith, omega arith, ap (λ m. keyed at (get_or (row ∷ rows) m vacant)) z ∙ h.2)
-
-    by : (t : Bool) → keyed at row ≡ t → MatchOption (place_from (i + 1) at rows) (holds at (held_in rows) ≡ false) (λ k. (i + 1 ≤ k) × (k - (i + 1) < length rows) × (keyed at (get_or rows (k - (i + 1)) vacant) ≡ true)) → MatchOption (place_from i at (row ∷ rows)) (holds at (held_in (row ∷ rows)) ≡ false) (λ k. (i ≤ k) × (k - i < length (row ∷ rows)) × (keyed at (get_or (row ∷ rows) (k - i) vacant) ≡ true))
-    by true is rest = rw is (here is)
-    by false is rest = rw is (later is (place_from (i + 1) at rows) rest)
-
 pub found_from : (at : SiteMonth) (rows : List Row) (result : Option ℕ) → result ≡ place_from 0 at rows → Found rows at result
-found_from at rows result is = rw is (all (place_from 0 at rows) (place_found 0 at rows))
-  where
-    all : (o : Option ℕ) → MatchOption o (holds at (held_in rows) ≡ false) (λ k. (0 ≤ k) × (k - 0 < length rows) × (keyed at (get_or rows (k - 0) vacant) ≡ true)) → Found rows at o
-    all None h = h
-    all (Some k) h = let z : k - 0 ≡ k = omega arith in let p = h.1 in (omega arith, ap (λ m. keyed at (get_or rows m vacant)) (sym z) ∙ h.2)
+found_from at rows result is = found_position at rows result (is ∙ sym (position_from-zero (keyed at) rows))
+
+-- The first slot that is not in use.
+pub first_vacant : (slots : List (List ℕ)) (result : Option ℕ) → result ≡ position (λ slot. is_free (row_in slot)) slots → Free (map row_in slots) result
+first_vacant slots result is =
+    free_position (map row_in slots) result
+    (is ∙ position_from-zero (λ slot. is_free (row_in slot)) slots ∙ position_map is_free row_in 0 slots ∙ sym (position_from-zero is_free (map row_in slots)))
 
 -- Some row has the site month exactly where it is held.
 place_holds : (i : ℕ) (at : SiteMonth) (rows : List Row) → is_some (place_from i at rows) ≡ holds at (held_in rows)

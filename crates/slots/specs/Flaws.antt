@@ -1,5 +1,6 @@
 -- Why an image cannot be taken into use: the first of these that fits.
 use Rattle.std.specs.Prelude.{ℕ, ◌+◌, ◌%◌, cond, not, List, [], ◌∷◌, length, Some, None, Option, ◌==◌, nat_lt}
+use Rattle.std.specs.List.{position_from}
 use Rattle.std.specs.Option.{option_map}
 use Rattle.reading.specs.declared.site_month.SiteMonth.{SiteMonth}
 use Rattle.record.specs.Rows.{keyed}
@@ -27,10 +28,9 @@ abbrev pub unlawful_from : ℕ → List (List ℕ) → Option Flaw
 unlawful_from i [] = None
 unlawful_from i (slot ∷ slots) = cond (lawful_slot slot) (unlawful_from (i + 1) slots) (Some (Unlawful i))
 
--- The first row that has a site month.
+-- The first row that has a site month, the first of these being number i.
 abbrev pub place_from : ℕ → SiteMonth → List Row → Option ℕ
-place_from i at [] = None
-place_from i at (row ∷ rows) = cond (keyed at row) (Some i) (place_from (i + 1) at rows)
+place_from i at rows = position_from (keyed at) i rows
 
 -- The first later row with the site month of row i, if row i has one.
 abbrev pub again : ℕ → Row → List Row → Option ℕ

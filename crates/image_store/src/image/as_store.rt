@@ -8,6 +8,7 @@ ghost use Rattle.slots.specs.Cuts.{table_of, OneSlot};
 ghost use Rattle.slots.proofs.Imaged.{image_lawful};
 
 use crate::image::Image;
+use crate::image::put::put;
 use reading::{Fault, SiteMonth};
 use record::Record;
 use slot::{SLOT, decode, encode};
@@ -17,12 +18,12 @@ use store::Store;
 const EMPTY: [u8; SLOT] = [0; SLOT];
 
 impl<'a> Store for Image<'a> {
-    ghost meaning = { λ store. table_meaning (table_of store.lent.bytes.now) };
+    ghost meaning = { λ store. table_meaning (table_of store.bytes.now) };
 
-    ghost lawful = { λ store. image_lawful store.lent.bytes.now store.lawful };
+    ghost lawful = { λ store. image_lawful store.bytes.now store.lawful };
 
     fn capacity(&self) -> usize {
-        slots::count(self.lent.bytes)
+        slots::count(self.bytes)
     }
 
     fn find(&self, at: SiteMonth) -> bool {
@@ -33,39 +34,34 @@ impl<'a> Store for Image<'a> {
         let Some(i) = self.place(at) else {
             return false;
         };
-        let Ok(slot) = decode(slots::slot_at(self.lent.bytes, i)) else {
+        let Ok(Some(found)) = decode(slots::slot_at(self.bytes, i)) else {
             unreachable()
         };
-        let Some(found) = slot else { unreachable() };
         *place = found;
         true
     }
 
     // One slot's bytes change, or none where the record is refused.
     fn keep(&mut self, kept: &Record) -> Result<(), Fault>
-        ensures kept { Kept (table_meaning (table_of self.old.lent.bytes.now)) (holding kept.now.row) (table_meaning (table_of self.new.lent.bytes.now)) result }
-        ensures bytes { MatchResult result (λ _. OneSlot (slot_bytes kept.now.row) self.old.lent.bytes.now self.new.lent.bytes.now) (λ _. self.new.lent.bytes.now ≡ self.old.lent.bytes.now) }
+        ensures kept { Kept (table_meaning (table_of self.old.bytes.now)) (holding kept.now.row) (table_meaning (table_of self.new.bytes.now)) result }
+        ensures bytes { MatchResult result (λ _. OneSlot (slot_bytes kept.now.row) self.old.bytes.now self.new.bytes.now) (λ _. self.new.bytes.now ≡ self.old.bytes.now) }
     {
-        if let Some(i) = self.place(kept.at()) {
-            self.lent.put(i, &encode(kept));
-            return Ok(());
-        }
-        let Some(i) = self.vacancy() else {
+        let Some(i) = self.room(kept.at()) else {
             return Err(Fault::StoreFull);
         };
-        self.lent.put(i, &encode(kept));
+        put(self.bytes, i, &encode(kept));
         Ok(())
     }
 
     // One slot's bytes become zero, or none change where the site month is not held.
     fn remove(&mut self, at: SiteMonth) -> bool
-        ensures removed { Removed (table_meaning (table_of self.old.lent.bytes.now)) at (table_meaning (table_of self.new.lent.bytes.now)) result }
-        ensures bytes { MatchBool result (OneSlot (replicate 424 0) self.old.lent.bytes.now self.new.lent.bytes.now) (self.new.lent.bytes.now ≡ self.old.lent.bytes.now) }
+        ensures removed { Removed (table_meaning (table_of self.old.bytes.now)) at (table_meaning (table_of self.new.bytes.now)) result }
+        ensures bytes { MatchBool result (OneSlot (replicate 424 0) self.old.bytes.now self.new.bytes.now) (self.new.bytes.now ≡ self.old.bytes.now) }
     {
         let Some(i) = self.place(at) else {
             return false;
         };
-        self.lent.put(i, &EMPTY);
+        put(self.bytes, i, &EMPTY);
         true
     }
 }

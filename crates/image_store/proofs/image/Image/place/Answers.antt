@@ -3,4 +3,4 @@ use Rattle.slots.proofs.Places.{found_from}
 use Rattle.image_store.proofs.image.Image.place.Goals as goal
 
 pub returns : goal.returns
-returns c = found_from c.args.at (table_of c.args.self.now.lent.bytes.now) c.place.result c.place.ensures
+returns c = found_from c.args.at (table_of c.args.self.now.bytes.now) c.place.result c.place.ensures
