@@ -47,9 +47,8 @@ impl fmt::Display for Listing {
 
 // The kWh of all meters.
 fn kwh_of(kept: &Record) -> u64 {
-    let mut kwh = 0u64;
-    for entry in kept.readings() {
-        kwh = kwh.saturating_add(u64::from(entry.kwh));
-    }
-    kwh
+    kept.readings().iter().fold(
+        0,
+        |kwh: u64, entry| kwh.saturating_add(u64::from(entry.kwh)),
+    )
 }

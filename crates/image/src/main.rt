@@ -1,14 +1,11 @@
 // For the commissioning bench: whether an image can be taken into use, and what it holds. Nothing is written.
 #![tactic(auto)]
 
-mod flaw;
 mod listing;
 
-use flaw::Reason;
 use listing::Listing;
-use record::Record;
 use slot::{decode, head};
-use slots::{check, count, slot_at};
+use slots::{check, slots_of};
 use std::io;
 use std::process::ExitCode;
 
@@ -40,8 +37,7 @@ fn judge(rt: &HostRuntime, bytes: &[u8]) -> io::Result<ExitCode> {
             Ok(ExitCode::SUCCESS)
         }
         Err(flaw) => {
-            let reason = Reason(flaw);
-            println!(rt; "cannot be taken into use: {reason}")?;
+            println!(rt; "cannot be taken into use: {flaw}")?;
             Ok(ExitCode::FAILURE)
         }
     }
@@ -49,33 +45,15 @@ fn judge(rt: &HostRuntime, bytes: &[u8]) -> io::Result<ExitCode> {
 
 // A line for the image and one for each site month.
 fn list(rt: &HostRuntime, bytes: &[u8]) -> io::Result<()> {
-    let slots = count(bytes);
-    let used = used_of(bytes);
-    println!(rt; "can be taken into use: {used} of {slots} slots in use")?;
-    for slot in 0..slots {
-        if let Some(kept) = record_in(slot_at(bytes, slot)) {
+    let slots = slots_of(bytes);
+    let all = slots.len();
+    let used = slots.iter().filter(|slot| head(*slot).is_some()).count();
+    println!(rt; "can be taken into use: {used} of {all} slots in use")?;
+    for (slot, bytes) in slots.iter().enumerate() {
+        if let Ok(Some(kept)) = decode(bytes) {
             let listing = Listing { slot, kept };
             println!(rt; "{listing}")?;
         }
     }
     Ok(())
-}
-
-// The record in a slot, if there is one.
-fn record_in(slot: &[u8]) -> Option<Record> {
-    match decode(slot) {
-        Ok(found) => found,
-        Err(_) => None,
-    }
-}
-
-// How many slots are in use.
-fn used_of(bytes: &[u8]) -> usize {
-    let mut used = 0;
-    for slot in 0..count(bytes) {
-        if head(slot_at(bytes, slot)).is_some() {
-            used += 1;
-        }
-    }
-    used
 }

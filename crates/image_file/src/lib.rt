@@ -27,16 +27,10 @@ pub fn argument(rt: &HostRuntime) -> io::Result<Option<String>> {
 pub fn read(rt: &HostRuntime, path: &str) -> io::Result<Vec<u8>>
     ensures { IfOk result (λ bytes. vec_len bytes ≤ 434600) }
 {
-    let mut file = File::open(rt, path)?;
+    let mut file = File::open(rt, path)?.take(LIMIT as u64);
     let mut bytes = Vec::new(rt.alloc());
-    let mut chunk = [0; 4096];
-    for _ in 0..LIMIT {
-        let count = file.read(&mut chunk)?;
-        if count == 0 || bytes.len() >= LIMIT {
-            break;
-        }
-        bytes.extend_from_slice(&chunk[0..count])?;
-    }
+    file.read_to_end(&mut bytes)?;
+    // The read stops at the limit, which its contract does not say.
     bytes.truncate(LIMIT);
     Ok(bytes)
 }
