@@ -3,7 +3,7 @@ use crate::compare::check_refused;
 use crate::known::{KNOWN_AT, known_closed_slot, known_slot, put};
 use crate::samples::record_with;
 use crate::table::{Tried, check_all};
-use reading::SiteMonth;
+use reading::{Fault, SiteMonth};
 use slot::{SLOT, encode};
 use slots::Flaw;
 use std::process::Abort;
@@ -515,6 +515,6 @@ fn first_flaw(rt: HostRuntime) {
 // The refusal that every flaw comes to.
 #[test]
 fn faults_of_flaws(rt: HostRuntime) {
-    let checked = slots::check(&[]).map_err(Flaw::fault);
+    let checked = slots::check(&[]).map_err(Fault::from);
     check_refused(&rt, checked, (16, 6, 0));
 }
