@@ -6,9 +6,7 @@ ghost use Rattle.slot.specs.Reading.{row_in, lawful_slot, row_of};
 
 use crate::entry::{entries_bytes, entries_in};
 use crate::header::{HEADER, header_bytes, site_month, state_in};
-use reading::Unlawful;
 use record::{Record, Row};
-use std::array::TryFromSliceError;
 
 // How many bytes a slot takes.
 pub const SLOT: usize = 424;
@@ -16,18 +14,6 @@ pub const SLOT: usize = 424;
 // The bytes are not those of a slot: neither all zero nor what the encoder writes for a record.
 #[derive(Clone, Copy, Debug, PartialEq, Eq)]
 pub struct BadSlot;
-
-impl From<Unlawful> for BadSlot {
-    fn from(_: Unlawful) -> BadSlot {
-        BadSlot
-    }
-}
-
-impl From<TryFromSliceError> for BadSlot {
-    fn from(_: TryFromSliceError) -> BadSlot {
-        BadSlot
-    }
-}
 
 // The slot of a record.
 pub fn encode(kept: &Record) -> [u8; SLOT]
@@ -48,11 +34,16 @@ pub fn decode(slot: &[u8]) -> Result<Option<Record>, BadSlot>
     ensures value { IfOk result (λ found. row_of found ≡ row_in slot.now) }
     ensures spelling { IfOk result (λ found. slot.now ≡ slot_bytes (row_of found)) }
 {
-    let slot = <&[u8; SLOT]>::try_from(slot)?;
+    let Ok(slot) = <&[u8; SLOT]>::try_from(slot) else {
+        return Err(BadSlot);
+    };
     if all_zero(slot) {
         return Ok(None);
     }
-    Ok(Some(Record::try_from(row_in(slot)?)?))
+    match Record::try_from(row_in(slot)?) {
+        Ok(kept) => Ok(Some(kept)),
+        Err(_) => Err(BadSlot),
+    }
 }
 
 // Whether each byte is zero.
