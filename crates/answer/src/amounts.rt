@@ -18,7 +18,8 @@ use std::array;
 // How many bytes the amounts take.
 const PAYLOAD: usize = 4 * LINES;
 
-// Reads an answer line of amounts: its kind, with the amounts put into the caller's place. A refused line leaves the place as it was.
+// Reads an answer line of amounts: its kind, with the amounts put into the caller's place, as the rule of this call has it.
+// A refused line leaves the place as it was.
 pub fn read_amounts(line: &[u8], amounts: &mut [i32; LINES]) -> Result<AmountsKind, Fault>
     ensures refused { result_err result ≡ first (amounts_tests line.now) }
     ensures value { IfOk result (λ kind. amounts_kind (kind_of (bytes_of line.now)) ≡ Some kind) }

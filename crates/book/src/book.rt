@@ -6,7 +6,8 @@ ghost use Rattle.book.specs.Meaning.{Meaning, Lawful};
 use crate::sense::Sense;
 use reading::{Fault, Reading};
 
-// What a book means is its ghost member, and what it keeps its law. Each call answers what the meaning says.
+// What a book means is its ghost member, and what it keeps its law. Each call answers what the meaning says. Statement lines
+// are numbers, by the rule that numbers them from 0.
 pub trait Book {
     ghost meaning: { Self → Meaning };
 

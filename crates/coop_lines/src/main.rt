@@ -22,6 +22,8 @@ line that is accepted. A missing file starts as 64 empty slots.";
 // How many slots a new image has.
 const SLOTS: usize = 64;
 
+// As in the program image, but for the usage, the name, how the bytes come and what follows: with these as arguments one
+// function for both is no plainer.
 fn main(rt: HostRuntime) -> io::Result<ExitCode> {
     let Some(path) = image_file::argument(&rt)? else {
         rt.eprintln(USAGE)?;
@@ -61,6 +63,8 @@ fn run(rt: &HostRuntime, path: &str, image: &mut Image<'_>) -> io::Result<()> {
     let mut reader = LineReader::new(BufReader::new(rt.alloc(), rt.stdin())?);
     reader.answer(rt, |line, buffer| {
         let answered = answer_request(image, line, buffer);
+        // Accepted, unless the answer's kind is a refusal's: the serving call gives the length alone, and to read the answer
+        // back as a kind is no plainer.
         if !buffer.starts_with(b"7F") {
             image_file::write(rt, path, image.bytes())?;
         }

@@ -24,7 +24,8 @@ impl<R: BufRead> LineReader<R> {
         }
     }
 
-    // Reads the next line: false where the input has ended. A last line without a line feed is a line too.
+    // Reads the next line: false where the input has ended. A last line without a line feed is a line too. The line itself
+    // is asked for by `line`: an Option of it would be no plainer, since the reader stays lent as long as it is used.
     pub fn advance(&mut self) -> io::Result<bool> {
         self.line.clear();
         for _ in 0..u64::MAX {

@@ -1,5 +1,6 @@
 // The rates of Oregon's sheets. A row has the rate at secondary and the rate at primary delivery. The rows of a table are
-// those of schedules 4, 5, 23, 28, 29, 728 and 730, or of the bands of the load size.
+// those of schedules 4, 5, 23, 28, 29, 728 and 730, or of the bands of the load size. Constant tables by schedule and
+// voltage, one for each line of the sheets, by a rule of the project.
 use crate::quantity::Rate;
 
 // In thousandths of a cent per kWh.

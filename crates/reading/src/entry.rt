@@ -1,4 +1,5 @@
-// A meter reading as plain data: no limit is known to hold.
+// A meter reading as plain data: no limit is known to hold. The schedule and the flags are raw numbers by the rule that lent
+// memory is plain.
 ghost use Rattle.std.specs.Prelude.{◌≡◌, ◌<◌};
 ghost use Rattle.reading.specs.Flags.{bit, primary_delivery, primary_metering, three_phase, multi_family};
 

@@ -45,6 +45,7 @@ impl State {
     }
 }
 
+// Plain data with a count beside the entries, by the rule that rows in lent memory and entries in a record are plain.
 #[derive(Clone, Copy, Debug, PartialEq, Eq)]
 pub struct Row {
     pub at: SiteMonth,

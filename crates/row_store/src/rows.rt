@@ -8,9 +8,6 @@ mod as_store;
 mod open;
 mod search;
 
-// The most rows of a store.
-const MOST: usize = 1024;
-
 // 1 to 1,024 rows, each vacant or with a lawful record, no site month twice.
 #[derive(Drop)]
 pub struct Rows<'a> {

@@ -7,9 +7,7 @@ ghost use Rattle.slots.specs.Flaws.{size_flaw, unlawful_from, twice_from, flaw_o
 use crate::cut::{count, place, slots_of};
 use crate::flaw::Flaw;
 use slot::{SLOT, decode, head};
-
-// The most slots of an image.
-const MOST: usize = 1024;
+use store::MOST;
 
 // The first flaw of an image, if it has one.
 pub fn check(bytes: &[u8]) -> Result<(), Flaw>

@@ -7,6 +7,9 @@ ghost use Rattle.store.specs.Meaning.{Meaning, Lawful, look_up, holds};
 use reading::{Fault, SiteMonth};
 use record::Record;
 
+// The most records of a store.
+pub const MOST: usize = 1024;
+
 // What a store means is its ghost member `meaning`, and what it keeps `lawful`.
 pub trait Store {
     ghost meaning: { Self → Meaning };
@@ -21,7 +24,8 @@ pub trait Store {
     fn find(&self, at: SiteMonth) -> bool
         ensures { result ≡ holds at (meaning self.now).held };
 
-    // Copies the record of a site month to the caller's place, and says whether it is held. If not, the place stays.
+    // Copies the record of a site month to the caller's place, and says whether it is held. If not, the place stays. The
+    // place is the caller's by a rule of a store.
     fn read(&self, at: SiteMonth, place: &mut Record) -> bool
         ensures found { result ≡ holds at (meaning self.now).held }
         ensures after { Copied (look_up at (meaning self.now).held) place.old.row place.new.row };

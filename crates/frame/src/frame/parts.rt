@@ -72,7 +72,7 @@ impl Frame {
         }
     }
 
-    // The number in a field, the high byte first.
+    // The number in a field, the high byte first. By an index, since a field's place and width are data.
     pub fn number(&self, field: Field) -> u32
         requires { (1 ≤ field.byte) × ((field.byte + field.width ≤ length (held self.now) + 1) × (field.width ≤ 4)) }
         ensures value { result ≡ number_in (held self.now) field.byte field.width }

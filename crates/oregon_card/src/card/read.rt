@@ -25,6 +25,7 @@ pub struct CardReply {
     pub card: Result<Card, Fault>,
 }
 
+// The one kind that this call serves: a list of one would be no plainer.
 const KIND: u8 = 0x10;
 
 const CAP: Field = Field { byte: 3, width: 4 };

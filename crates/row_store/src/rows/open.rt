@@ -5,9 +5,10 @@ ghost use Rattle.reading.specs.First.{when};
 ghost use Rattle.reading.specs.declared.fault.Fault.TheVariants.{Unusable};
 ghost use Rattle.record.specs.Rows.{vacant};
 
-use crate::rows::{MOST, Rows};
+use crate::rows::Rows;
 use reading::Fault;
 use record::{Row, VACANT};
+use store::MOST;
 
 impl<'a> Rows<'a> {
     // A refusal, unless there are 1 to 1,024 rows.
