@@ -9,11 +9,12 @@ ghost use Rattle.account.specs.Worked.{PostsWorked};
 
 use crate::accounts::Accounts;
 use book::Book;
+use frame::LINE;
 use reading::Fault;
 use store::Store;
 
 // The least length of an answer buffer.
-pub const BUFFER: usize = 128;
+pub const BUFFER: usize = LINE;
 
 // Serves a line and writes its answer, or its refusal, at the front of a buffer of at least 128 bytes. Answers the length
 // of what it wrote.

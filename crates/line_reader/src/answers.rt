@@ -39,7 +39,8 @@ impl<R: BufRead> LineReader<R> {
     }
 }
 
-// Writes the first bytes of a buffer as a line, at once. The line feed is put behind them.
+// Writes the first bytes of a buffer as a line, at once. The line feed is put behind them. The length stands beside the
+// buffer, since the calls that fill the caller's buffer answer a length.
 pub fn write_line(rt: &HostRuntime, buffer: &mut [u8], length: usize) -> io::Result<()>
     requires { length < length_of buffer.old }
     ensures { buffer.new ≡ slice_set buffer.old length 10 }

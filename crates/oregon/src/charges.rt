@@ -11,6 +11,8 @@ use crate::service::Service;
 use book::{CENT, half_up};
 use oregon_card::Schedule;
 
+// Each bound of a charge is that of its own sum: a type for each power of ten would be no plainer.
+//
 // The bands are matches on ranges, as the sheets have them: one search in a table of their ends is no plainer.
 
 // The band of the load size on 28 and 728.

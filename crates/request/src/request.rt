@@ -13,6 +13,7 @@ use crate::kind::RequestKind;
 use frame::Frame;
 use reading::{Fault, Reading, SiteMonth};
 
+// A site month and a reading go different ways from here, so that no struct holds both.
 #[derive(Clone, Copy, Debug, PartialEq, Eq)]
 pub enum Request {
     Post { at: SiteMonth, reading: Reading },

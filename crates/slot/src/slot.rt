@@ -21,6 +21,7 @@ pub fn encode(kept: &Record) -> [u8; SLOT]
     ensures reads_back { row_in result ≡ kept.now.row }
     ensures lawful { lawful_slot result ≡ true }
 {
+    // Two copies: the two parts are of different types.
     let row = kept.row();
     let mut slot = [0; SLOT];
     slot[..HEADER].copy_from_slice(&header_bytes(row));
