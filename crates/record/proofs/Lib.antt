@@ -1,5 +1,4 @@
 pub mod Orders
-pub mod Passing
 pub mod Placing
 pub mod Searching
 pub mod Laws

@@ -2,7 +2,7 @@
 use Rattle.std.proofs.Common.{◌≡◌, ℕ, zero, suc, ◌*◌, ◌/◌, ◌%◌, ◌<◌, ◌≤◌, true, ◌&&◌, eqb, leb, List, [], ◌∷◌, map, length, get_or, take, drop, set, sym, refl, ap, ◌∙◌, subst, arith}
 use Rattle.std.specs.List.{list_all}
 use Rattle.std.proofs.lemmas.Bool.{and_parts, and_from, leb-true, le-leb, eqb-true, eq-eqb}
-use Rattle.record.proofs.Passing.{pass_getD}
+use Rattle.std.proofs.lemmas.List.Sums.{AllPass-from_list_all}
 use Rattle.record.specs.Rows.{tidy}
 use Rattle.slot.specs.Reading.{row_in, lawful_slot}
 use Rattle.store.specs.Meaning.{Lawful, once}
@@ -66,7 +66,7 @@ image_lawful bytes h =
 pub slot_fit : (bytes : List ℕ) (i : ℕ) → lawful_image bytes ≡ true → i < slot_count bytes → lawful_slot (take 424 (drop (424 * i) bytes)) ≡ true
 slot_fit bytes i h within =
     ap lawful_slot (sym (slot_is (slot_count bytes) bytes i within))
-    ∙ pass_getD lawful_slot (slots_of bytes) i [] (let n = slots_long (slot_count bytes) bytes in omega arith) (rules bytes h).each
+    ∙ AllPass-from_list_all lawful_slot (slots_of bytes) (rules bytes h).each i [] (let n = slots_long (slot_count bytes) bytes in omega arith)
 
 slots_set : (slots : List (List ℕ)) (i : ℕ) (new : List ℕ) → lawful_slot new ≡ true → list_all lawful_slot slots ≡ true → list_all lawful_slot (set slots i new) ≡ true
 slots_set [] i new h k = refl

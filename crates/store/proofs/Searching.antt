@@ -1,5 +1,5 @@
 -- What the first place of a key, or of a vacant row, says of a table.
-use Rattle.std.proofs.Common.{◌≡◌, ℕ, ◌+◌, ◌<◌, Bool, true, false, not, ◌⊎◌, List, [], ◌∷◌, length, get_or, Some, None, Option, MatchOption, sym, refl, subst, inl, inr, ◌∙◌}
+use Rattle.std.proofs.Common.{◌≡◌, ℕ, ◌+◌, Bool, true, false, not, List, [], ◌∷◌, get_or, Some, None, Option, sym, refl, subst, inl, inr, ◌∙◌}
 use Rattle.std.specs.List.{list_all, position, position_from}
 use Rattle.std.specs.Option.{option_or}
 use Rattle.std.proofs.lemmas.Bool.{and_from, cond-true, cond-false, not-true}
@@ -10,7 +10,7 @@ use Rattle.record.specs.Rows.{vacant, keyed}
 use Rattle.record.specs.States.{used}
 use Rattle.record.specs.declared.row.Row.{Row}
 use Rattle.store.specs.Meaning.{holds}
-use Rattle.store.specs.Table.{held_in, Found, Free}
+use Rattle.store.specs.Table.{held_in, Found, Free, Room}
 use Rattle.store.proofs.Tables.{holds_from}
 
 -- A row that is not in use.
@@ -40,12 +40,6 @@ found_position at rows (Some i) h = let p = position-Some (keyed at) rows i vaca
 pub free_position : (rows : List Row) (r : Option ℕ) → r ≡ position is_free rows → Free rows r
 free_position rows None h = none_free rows 0 (sym (position_from-zero is_free rows) ∙ sym h)
 free_position rows (Some i) h = let p = position-Some is_free rows i vacant (sym h) in (p.0, not-true (used (get_or rows i vacant).state) p.1)
-
--- Where a record is kept: in its own row, else in a vacant one, or nowhere.
-abbrev pub Room : List Row → SiteMonth → Option ℕ → Type 0
-Room rows at r =
-    MatchOption r ((holds at (held_in rows) ≡ false) × (list_all (λ row. used row.state) rows ≡ true))
-    (λ i. (i < length rows) × ((keyed at (get_or rows i vacant) ≡ true) ⊎ ((holds at (held_in rows) ≡ false) × (used (get_or rows i vacant).state ≡ false))))
 
 pub room_from : (rows : List Row) (at : SiteMonth) (own free : Option ℕ) → Found rows at own → Free rows free → Room rows at (option_or own free)
 room_from rows at None None none full = (none, full)

@@ -77,9 +77,6 @@ other_turned x y h = by (same x y) refl
 abbrev pub Under : SiteMonth → Row → Type 0
 Under key row = used row.state ≡ true → same key row.at ≡ true
 
-under_keyed : (key : SiteMonth) (row : Row) → keyed key row ≡ true → Under key row
-under_keyed key row h = λ _. (and_parts (used row.state) (same key row.at) h).1
-
 under_other : (at key : SiteMonth) (row : Row) → Under key row → same at key ≡ false → keyed at row ≡ false
 under_other at key row under h = by (keyed at row) refl
   where
@@ -236,14 +233,10 @@ pass_set p (row ∷ rows) (suc i) new h k =
     let q = and_parts (p row) (list_all p rows) k in
     and_from (p row) (list_all p (set rows i new)) q.0 (pass_set p rows i new h q.1)
 
--- A table of vacant rows is lawful and holds nothing.
+-- A table of vacant rows is lawful.
 pub vacant_lawful : (n : ℕ) → lawful_table (replicate n vacant) ≡ true
 vacant_lawful zero = refl
 vacant_lawful (suc n) = vacant_lawful n
-
-pub vacant_held : (n : ℕ) → held_in (replicate n vacant) ≡ []
-vacant_held zero = refl
-vacant_held (suc n) = vacant_held n
 
 -- The record that is held under the key of a row is that row's.
 pub look_at : (at : SiteMonth) (rows : List Row) (i : ℕ) → i < length rows → Apart at i rows → keyed at (get_or rows i vacant) ≡ true → look_up at (held_in rows) ≡ Some (holding (get_or rows i vacant))

@@ -1,5 +1,5 @@
 -- A table of rows, some of them vacant: what both stores are, whether they lie in memory as rows or as bytes.
-use Rattle.std.specs.Prelude.{◌≡◌, ℕ, ◌<◌, Bool, true, false, cond, ◌&&◌, List, [], ◌∷◌, length, get_or, Option, MatchOption, slice_index_or, slice_set}
+use Rattle.std.specs.Prelude.{◌≡◌, ℕ, ◌<◌, Bool, true, false, cond, ◌&&◌, ◌⊎◌, List, [], ◌∷◌, length, get_or, Option, MatchOption, slice_index_or, slice_set}
 use Rattle.std.specs.List.{list_all}
 use Rattle.reading.specs.declared.site_month.SiteMonth.{SiteMonth}
 use Rattle.record.specs.Holding.{Holding}
@@ -28,6 +28,12 @@ Found rows at result = MatchOption result (holds at (held_in rows) ≡ false) (�
 -- Where a search for a vacant row ends: at one, or nowhere since all are in use.
 abbrev pub Free : List Row → Option ℕ → Type 0
 Free rows result = MatchOption result (list_all (λ row. used row.state) rows ≡ true) (λ i. (i < length rows) × (used (get_or rows i vacant).state ≡ false))
+
+-- Where a record is kept: in its own row, else in a vacant one, or nowhere.
+abbrev pub Room : List Row → SiteMonth → Option ℕ → Type 0
+Room rows at result =
+    MatchOption result ((holds at (held_in rows) ≡ false) × (list_all (λ row. used row.state) rows ≡ true))
+    (λ i. (i < length rows) × ((keyed at (slice_index_or rows i vacant) ≡ true) ⊎ ((holds at (held_in rows) ≡ false) × (used (slice_index_or rows i vacant).state ≡ false))))
 
 -- One row is written over, and no other altered. Which one is free.
 abbrev pub OneRow : Row → List Row → List Row → Type 0

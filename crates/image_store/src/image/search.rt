@@ -1,6 +1,5 @@
 // Searching an image.
-ghost use Rattle.store.specs.Table.{Found, Free};
-ghost use Rattle.store.proofs.Searching.{Room};
+ghost use Rattle.store.specs.Table.{Found, Free, Room};
 ghost use Rattle.slots.specs.Cuts.{table_of};
 
 use crate::image::Image;

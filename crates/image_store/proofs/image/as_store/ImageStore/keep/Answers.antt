@@ -1,8 +1,7 @@
 use Rattle.std.proofs.Common.{◌<◌, Some, None, Ok, sym, refl, ap, ◌∙◌, subst, arith}
 use Rattle.record.specs.Rows.{holding}
 use Rattle.store.specs.Changes.{Kept}
-use Rattle.store.specs.Table.{table_meaning}
-use Rattle.store.proofs.Searching.{Room}
+use Rattle.store.specs.Table.{Room, table_meaning}
 use Rattle.store.proofs.Stored.{kept_not}
 use Rattle.slots.specs.Cuts.{slot_count, table_of, lawful_image, put_slot}
 use Rattle.slots.proofs.Cutting.{table_long}
