@@ -3,6 +3,7 @@ ghost use Rattle.std.specs.Prelude.{◌≡◌, ◌≤◌, true, false, [], ◌�
 ghost use Rattle.std.specs.Result.{result_err};
 ghost use Rattle.reading.specs.First.{first};
 ghost use Rattle.record.specs.Edits.{added, replaced, taken_out, Puts, Takes, with_readings, add_tests, meter_test};
+ghost use Rattle.record.specs.Meters.{StandsAt};
 ghost use Rattle.record.specs.Rows.{holding};
 
 use crate::entries;
@@ -11,7 +12,7 @@ use crate::row::{BLANK, READINGS, Row, State};
 use reading::{Fault, Reading, SiteMonth};
 
 impl Record {
-    // The open record of one reading.
+    // The open record of one reading. The limit of the month is asked for, and no fact of a SiteMonth: a look-up takes any.
     pub fn new(at: SiteMonth, reading: &Reading) -> Record
         requires { at.month ≤ 2399 }
         ensures { holding result.row ≡ record { at = at; closed = false; readings = reading.now.entry ∷ [] } }
@@ -58,9 +59,7 @@ impl Record {
         ensures meters { IfOk result (λ x. Puts reading.now.entry (holding self.now.row).readings (holding x.row).readings) }
     {
         let entry = reading.entry();
-        let Ok(place) = entries::search(self.readings(), entry.meter) else {
-            return Err(Fault::NoMeter);
-        };
+        let place = self.standing(entry.meter)?;
         let mut row = self.row;
         row.entries[place] = entry;
         Ok(Record { row })
@@ -72,9 +71,7 @@ impl Record {
         ensures value { IfOk result (λ left. MatchOption left (taken_out meter (holding self.now.row).readings ≡ []) (λ x. holding x.row ≡ with_readings (taken_out meter (holding self.now.row).readings) (holding self.now.row))) }
         ensures meters { OnOk result (Takes meter (holding self.now.row).readings (taken_out meter (holding self.now.row).readings)) }
     {
-        let Ok(place) = entries::search(self.readings(), meter) else {
-            return Err(Fault::NoMeter);
-        };
+        let place = self.standing(meter)?;
         let count = self.row.count;
         if count == 1 {
             return Ok(None);
@@ -87,6 +84,14 @@ impl Record {
             ..self.row
         };
         Ok(Some(Record { row }))
+    }
+
+    // Where the reading of a meter stands.
+    fn standing(&self, meter: u16) -> Result<usize, Fault>
+        ensures refused { result_err result ≡ meter_test meter (holding self.now.row).readings }
+        ensures value { IfOk result (StandsAt meter (holding self.now.row).readings) }
+    {
+        entries::search(self.readings(), meter).or(Err(Fault::NoMeter))
     }
 
     // The record closed.

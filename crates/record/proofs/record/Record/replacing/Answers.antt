@@ -13,8 +13,8 @@ pub invariant_of-result : goal.invariant_of-result
 invariant_of-result c =
     let row = c.args.self.now.row in
     let each : lawful_reading c.entry-entry.result ≡ true = search rules in
-    let at : StandsAt c.entry-entry.result.meter (take row.count row.entries) c.in-Ok.place = rw (← c.readings.ensures.value) c.in-Ok.ensures.place in
-    record { lawful = replacing_lawful row c.args.self.now.lawful c.entry-entry.result c.in-Ok.place at each }
+    let at : StandsAt c.entry-entry.result.meter (take row.count row.entries) c.in_ok-place.place = c.in_ok-place.ensures.value in
+    record { lawful = replacing_lawful row c.args.self.now.lawful c.entry-entry.result c.in_ok-place.place at each }
 
 pub returns : goal.returns
 returns c =
@@ -22,10 +22,9 @@ returns c =
     let es = take row.count row.entries in
     let e = c.args.reading.now.entry in
     let v = c.entry-entry.ensures.value in
-    let readings = c.readings.ensures.value in
-    let at : StandsAt e.meter es c.in-Ok.place = subst (λ (x : Entry). StandsAt x.meter es c.in-Ok.place) v (rw (← readings) c.in-Ok.ensures.place) in
-    let is = ap (λ x. take row.count (set row.entries c.in-Ok.place x)) v ∙ replacing_is row c.args.self.now.lawful e c.in-Ok.place at in
-    let stood : stands e.meter es ≡ true = ap is_some (stands_here e.meter es c.in-Ok.place at.place at.within at.own) in
+    let at : StandsAt e.meter es c.in_ok-place.place = subst (λ (x : Entry). StandsAt x.meter es c.in_ok-place.place) v c.in_ok-place.ensures.value in
+    let is = ap (λ x. take row.count (set row.entries c.in_ok-place.place x)) v ∙ replacing_is row c.args.self.now.lawful e c.in_ok-place.place at in
+    let stood : stands e.meter es ≡ true = ap is_some (stands_here e.meter es c.in_ok-place.place at.place at.within at.own) in
     record {
       refused = search rules;
       value = ap (λ (rs : List Entry). record { at = row.at; closed = is_closed row.state; readings = rs }) is;
