@@ -1,6 +1,7 @@
-use Rattle.std.proofs.Common.{rules, pos, ap₂, ◌∙◌}
+use Rattle.std.proofs.Common.{rules, ap₂, ◌∙◌}
 use Rattle.account.specs.Reply.{difference, differences}
-use Rattle.account.proofs.Filling.{serves_each, made_each}
+use Rattle.reading.proofs.Made.{from_fn_same}
+use Rattle.account.proofs.Filling.{serves_each}
 use Rattle.account.proofs.Weights.{subtracted}
 use Rattle.account.proofs.settle.differences.Goals as goal
 
@@ -15,5 +16,5 @@ returns g c =
     let before = c.readings.result in
     let after = c.readings-2.result in
     let less = subtracted b (g.met.B.Book.lawful c.args.book.now) before.entries.now after.entries.now before.few after.few _ _ c.settlements-settled_before.ensures c.settlements-settled_after.ensures in
-    made_each _ _ (difference b before.entries.now after.entries.now) 13 (λ line y q below called. let is = (less line below).1 in search (rules, is)) c.from_fn.result (pos 0) c.from_fn.ensures.items
+    from_fn_same c.from_fn.ensures.items (difference b before.entries.now after.entries.now) (λ line y f' below call. let is = (less line below).1 in search (rules, is))
     ∙ ap₂ (differences b) c.readings.ensures c.readings-2.ensures

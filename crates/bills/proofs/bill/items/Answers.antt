@@ -9,5 +9,5 @@ returns g c =
     let book = g.B.Book.meaning c.args.book.now in
     let reading = c.args.reading.now in
     let item = item_of book reading.entry in
-    let all = from_fn_same _ item _ (λ line y closure call. search rules) c.from_fn.result 13 (item 0) c.from_fn.ensures.items in
+    let all = from_fn_same c.from_fn.ensures.items item (λ line y closure below call. search rules) in
     record { value = all; most = none_above book reading.entry c.from_fn.result all (g.met.B.Book.lawful c.args.book.now) reading.within }

@@ -4,5 +4,4 @@ use Rattle.request.specs.Fields.{limit}
 use Rattle.request.proofs.fields.earlier_limits.Goals as goal
 
 pub returns : goal.returns
-returns c =
-    from_fn_same _ (λ i. limit (33 + 2 * i) 2 9999) _ (λ i l f' call. search rules) c.from_fn.result 11 (limit 0 0 0) c.from_fn.ensures.items
+returns c = from_fn_same c.from_fn.ensures.items (λ i. limit (33 + 2 * i) 2 9999) (λ i l f' below call. search rules)

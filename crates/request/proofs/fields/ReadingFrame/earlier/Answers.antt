@@ -6,4 +6,4 @@ use Rattle.request.proofs.fields.ReadingFrame.earlier.Goals as goal
 
 pub returns : goal.returns
 returns c =
-    from_fn_same _ (λ i. field (held c.args.self.now.frame.now) (33 + 2 * i) 2) _ (λ i kw f' call. search rules) c.from_fn.result 11 0 c.from_fn.ensures.items
+    from_fn_same c.from_fn.ensures.items (λ i. field (held c.args.self.now.frame.now) (33 + 2 * i) 2) (λ i kw f' below call. search rules)
