@@ -2,7 +2,6 @@ pub mod Holdings
 pub mod Agree
 pub mod Tallied
 pub mod Said
-pub mod Filling
 pub mod Weights
 pub mod Steps
 pub mod Telescope

@@ -2,6 +2,7 @@
 use Rattle.std.proofs.Common.{◌≡◌, ℕ, ◌<◌, Bool, true, false, cond, List, ℤ, pos, ◌+ℤ◌, ◌-ℤ◌, Some, None, Ok, Err, Option, Result, sym, refl, ap, ◌∙◌, subst, arith}
 use Rattle.std.specs.Option.{option_map}
 use Rattle.std.proofs.lemmas.Int.{ints}
+use Rattle.std.proofs.lemmas.List.FromFn.{get_or-map-range_with_len}
 use Rattle.reading.specs.First.{or_else}
 use Rattle.reading.specs.Statement.{lines}
 use Rattle.reading.specs.declared.fault.Fault.{Fault}
@@ -28,7 +29,6 @@ use Rattle.account.specs.Readings.{Few, readings_of, readings_at}
 use Rattle.account.specs.Reply.{difference, altered, settlements, answer_to, answer_of, written}
 use Rattle.account.specs.Runs.{states_change, amount_said}
 use Rattle.account.specs.Tests.{ruled}
-use Rattle.account.proofs.Filling.{on_line}
 use Rattle.account.proofs.Holdings.{same_true, same_self, look_up_put, others_with}
 use Rattle.account.proofs.Said.{unwritten_says, refused_says, closed_says, amounts_say}
 use Rattle.account.proofs.Weights.{settlements_fit, differences_fit}
@@ -83,7 +83,7 @@ module _ (b : book.Meaning) (laws : book.Lawful b) (held : List Holding) (o : on
   altered_here kind states at a line below few more =
       let amounts = altered b held at a in
       let is = amounts_say kind amounts refl (differences_fit b laws (readings_at at held) (readings_at at (change a held)) few more) in
-      let on = on_line (difference b (readings_at at held) (readings_at at (change a held))) line below in
+      let on = get_or-map-range_with_len (difference b (readings_at at held) (readings_at at (change a held))) 0 lines line line (pos 0) below (omega arith) in
       rw (is, states, on, difference_added (settled b (readings_at at (change a held)) line) (settled b (readings_at at held) line))
 
   here : (a : Asked) (line : ℕ) → line < lines → Few (readings_at (site_of a) held) → Few (readings_at (site_of a) (change a held)) → amount_said (said (Ok (answer_line (answer_to b held a)))) line +ℤ pos (settled b (readings_at (site_of a) held) line) ≡ pos (settled b (readings_at (site_of a) (change a held)) line)

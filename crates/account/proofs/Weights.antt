@@ -4,6 +4,7 @@ use Rattle.std.specs.List.{range_with_len, list_all, AllByRecursion as All}
 use Rattle.std.proofs.lemmas.Nat.{mul-le}
 use Rattle.std.proofs.ByRecursion.{All-weaker, All-map, All-from_get_or, sum_by_le}
 use Rattle.std.proofs.lemmas.Int.{ints, to_z-of_z}
+use Rattle.std.proofs.lemmas.List.FromFn.{get_or-map-range_with_len}
 use Rattle.std.proofs.lemmas.List.Sums.{sum_by-cons}
 use Rattle.std.proofs.lemmas.Bool.{and_parts, cond_both, leb-true}
 use Rattle.std.proofs.lemmas.Bool.Decides.{nat_tests}
@@ -18,7 +19,6 @@ use Rattle.record.specs.Holding.{Holding, same, lawful_site_month, lawful_holdin
 use Rattle.store.specs.Meaning.{look_up}
 use Rattle.account.specs.Readings.{Few, readings_of, readings_at}
 use Rattle.account.specs.Reply.{difference, differences, settlements}
-use Rattle.account.proofs.Filling.{on_line}
 
 -- What an edit makes of a sum over the readings.
 module _ (f : Entry → ℕ) where
@@ -98,7 +98,7 @@ module _ (b : book.Meaning) (laws : book.Lawful b) where
   settlement_read : (es : List Entry) → Few es → (amounts : List ℤ) → amounts ≡ settlements b es → (line : ℕ) → line < lines → to_z w32 (of_z w32 (get_or amounts line (pos 0))) ≡ pos (settled b es line)
   settlement_read es few amounts is line below =
       by_bits (settled b es line) (get_or amounts line (pos 0)) (settled_bound es few line)
-      (ap (λ xs. get_or xs line (pos 0)) is ∙ on_line (λ n. pos (settled b es n)) line below)
+      (ap (λ xs. get_or xs line (pos 0)) is ∙ get_or-map-range_with_len (λ n. pos (settled b es n)) 0 lines line line (pos 0) below (omega arith))
 
   -- One such less another fits, and is read as the difference.
   pub subtracted : (es fs : List Entry) → Few es → Few fs → (before after : List ℤ) → before ≡ settlements b es → after ≡ settlements b fs → (line : ℕ) → line < lines → let less = to_z w32 (of_z w32 (get_or after line (pos 0))) -ℤ to_z w32 (of_z w32 (get_or before line (pos 0))) in SFits w32 less × (to_z w32 (of_z w32 less) ≡ difference b es fs line)

@@ -1,9 +1,17 @@
-use Rattle.std.proofs.Common.{rules, ap₂, ◌∙◌}
-use Rattle.account.specs.Reply.{difference, differences}
+use Rattle.std.proofs.Common.{◌≡◌, ℕ, ◌<◌, rules, sym, refl, ap₂, ◌∙◌, subst, arith}
+use Rattle.std.specs.Array.{index_steps}
+use Rattle.std.specs.Iterator.{CallableAtEachTurn}
+use Rattle.std.proofs.lemmas.Fn.{serves_by}
 use Rattle.reading.proofs.Made.{from_fn_same}
-use Rattle.account.proofs.Filling.{serves_each}
+use Rattle.account.specs.Reply.{difference, differences}
 use Rattle.account.proofs.Weights.{subtracted}
 use Rattle.account.proofs.settle.differences.Goals as goal
+
+-- A closure that calls leave as it was may be called at each index, if it may now.
+serves_each : {P : Type 0} (R : P → ℕ → P → Type 0) (Q : P → ℕ → Type 0) (n : ℕ) (p : P) → ((x : ℕ) (q : P) → R p x q → q ≡ p) → ((x : ℕ) → x < n → Q p x) → CallableAtEachTurn (index_steps n) R Q 0 p
+serves_each R Q n p same takes =
+    serves_by R (λ xs q. q ≡ p) (λ xs q x v is gave. same x v (subst (λ s. R s x v) is gave)) (index_steps n) Q 0 p refl
+    (λ xs t q x u yields step is. subst (λ s. Q s x) (sym is) (takes x (omega (arith, step.0, step.1))))
 
 pub from_fn-requires : goal.from_fn-requires
 from_fn-requires g c =
