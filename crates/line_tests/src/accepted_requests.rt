@@ -1,5 +1,5 @@
 // Requests that are accepted, with every field that they carry.
-use crate::table::{Tried, check_all};
+use crate::table::check_all;
 use reading::{Entry, Reading, SiteMonth};
 use request::Request;
 use std::process::Abort;
@@ -8,7 +8,6 @@ use std::process::Abort;
 #[derive(Clone, Copy)]
 struct Full {
     line: &'static [u8],
-    corrects: bool,
     at: SiteMonth,
     entry: Entry,
 }
@@ -29,12 +28,11 @@ struct Named {
     request: Request,
 }
 
-// Whole readings.
-const FULL: [Full; 10] = [
-    // Post: that of the worked month.
+// Whole readings posted.
+const POSTED: [Full; 7] = [
+    // That of the worked month.
     Full {
         line: b"01340000000700FC0001000400000003E80000000000000000000000000000640000000000000000000000000000000000000000000074",
-        corrects: false,
         at: SiteMonth {
             site: 7,
             month: 252,
@@ -52,10 +50,9 @@ const FULL: [Full; 10] = [
             load: 0,
         },
     },
-    // Post: every field 0.
+    // Every field 0.
     Full {
         line: b"013400000000000000000000000000000000000000000000000000000000000000000000000000000000000000000000000000000000CB",
-        corrects: false,
         at: SiteMonth { site: 0, month: 0 },
         entry: Entry {
             meter: 0,
@@ -70,10 +67,9 @@ const FULL: [Full; 10] = [
             load: 0,
         },
     },
-    // Post: every field at its limit.
+    // Every field at its limit.
     Full {
         line: b"0134FFFFFFFF095FFFFFFFFF0F000F423F000F423F0001869F0001869F270F64270F270F270F270F270F270F270F270F270F270F270F04",
-        corrects: false,
         at: SiteMonth {
             site: 4_294_967_295,
             month: 2_399,
@@ -91,49 +87,9 @@ const FULL: [Full; 10] = [
             load: 9_999,
         },
     },
-    // Correction: every field 0.
-    Full {
-        line: b"033400000000000000000000000000000000000000000000000000000000000000000000000000000000000000000000000000000000C9",
-        corrects: true,
-        at: SiteMonth { site: 0, month: 0 },
-        entry: Entry {
-            meter: 0,
-            schedule: 0,
-            flags: 0,
-            power_factor: 0,
-            kwh: 0,
-            off_hours: 0,
-            demand: 0,
-            peak_demand: 0,
-            kvar: 0,
-            load: 0,
-        },
-    },
-    // Correction: every field at its limit.
-    Full {
-        line: b"0334FFFFFFFF095FFFFFFFFF0F000F423F000F423F0001869F0001869F270F64270F270F270F270F270F270F270F270F270F270F270F02",
-        corrects: true,
-        at: SiteMonth {
-            site: 4_294_967_295,
-            month: 2_399,
-        },
-        entry: Entry {
-            meter: 65_535,
-            schedule: 65_535,
-            flags: 15,
-            power_factor: 100,
-            kwh: 999_999,
-            off_hours: 999_999,
-            demand: 99_999,
-            peak_demand: 99_999,
-            kvar: 9_999,
-            load: 9_999,
-        },
-    },
-    // Post: every byte different.
+    // Every byte different.
     Full {
         line: b"01340102030405060708090A0B000C0D0E000A101100011213000110121617180102030405060708090A0B0C0D0E0F10111213141516AC",
-        corrects: false,
         at: SiteMonth {
             site: 16_909_060,
             month: 1_286,
@@ -151,31 +107,9 @@ const FULL: [Full; 10] = [
             load: 6_207,
         },
     },
-    // Correction: every byte different.
-    Full {
-        line: b"0334FEDCBA980123FEDC02DA050005432100012345000043210000123409875A1516131411120F100D0E0B0C090A07080506030401025B",
-        corrects: true,
-        at: SiteMonth {
-            site: 4_275_878_552,
-            month: 291,
-        },
-        entry: Entry {
-            meter: 65_244,
-            schedule: 730,
-            flags: 5,
-            power_factor: 90,
-            kwh: 344_865,
-            off_hours: 74_565,
-            demand: 17_185,
-            peak_demand: 4_660,
-            kvar: 2_439,
-            load: 5_141,
-        },
-    },
-    // Post: off-hours at the kWh.
+    // Off-hours at the kWh.
     Full {
         line: b"01340000000700FC0001000400000004D2000004D2000000000000000000006400000000000000000000000000000000000000000000B3",
-        corrects: false,
         at: SiteMonth {
             site: 7,
             month: 252,
@@ -193,10 +127,9 @@ const FULL: [Full; 10] = [
             load: 0,
         },
     },
-    // Post: peak-hours demand at the demand.
+    // Peak-hours demand at the demand.
     Full {
         line: b"01340000000700FC0001000400000003E800000000000010E1000010E10000640000000000000000000000000000000000000000000092",
-        corrects: false,
         at: SiteMonth {
             site: 7,
             month: 252,
@@ -214,10 +147,9 @@ const FULL: [Full; 10] = [
             load: 432,
         },
     },
-    // Post: schedule 730, flags 7.
+    // Schedule 730, flags 7.
     Full {
         line: b"0134000000010001000202DA070003D090000186A00000303900002EE001415D04B0044C03E80000000000000000000000000000000055",
-        corrects: false,
         at: SiteMonth { site: 1, month: 1 },
         entry: Entry {
             meter: 2,
@@ -230,6 +162,67 @@ const FULL: [Full; 10] = [
             peak_demand: 12_000,
             kvar: 321,
             load: 1_217,
+        },
+    },
+];
+
+// Whole readings corrected.
+const CORRECTED: [Full; 3] = [
+    // Every field 0.
+    Full {
+        line: b"033400000000000000000000000000000000000000000000000000000000000000000000000000000000000000000000000000000000C9",
+        at: SiteMonth { site: 0, month: 0 },
+        entry: Entry {
+            meter: 0,
+            schedule: 0,
+            flags: 0,
+            power_factor: 0,
+            kwh: 0,
+            off_hours: 0,
+            demand: 0,
+            peak_demand: 0,
+            kvar: 0,
+            load: 0,
+        },
+    },
+    // Every field at its limit.
+    Full {
+        line: b"0334FFFFFFFF095FFFFFFFFF0F000F423F000F423F0001869F0001869F270F64270F270F270F270F270F270F270F270F270F270F270F02",
+        at: SiteMonth {
+            site: 4_294_967_295,
+            month: 2_399,
+        },
+        entry: Entry {
+            meter: 65_535,
+            schedule: 65_535,
+            flags: 15,
+            power_factor: 100,
+            kwh: 999_999,
+            off_hours: 999_999,
+            demand: 99_999,
+            peak_demand: 99_999,
+            kvar: 9_999,
+            load: 9_999,
+        },
+    },
+    // Every byte different.
+    Full {
+        line: b"0334FEDCBA980123FEDC02DA050005432100012345000043210000123409875A1516131411120F100D0E0B0C090A07080506030401025B",
+        at: SiteMonth {
+            site: 4_275_878_552,
+            month: 291,
+        },
+        entry: Entry {
+            meter: 65_244,
+            schedule: 730,
+            flags: 5,
+            power_factor: 90,
+            kwh: 344_865,
+            off_hours: 74_565,
+            demand: 17_185,
+            peak_demand: 4_660,
+            kvar: 2_439,
+            load: 5_141,
         },
     },
 ];
@@ -589,53 +582,56 @@ const NAMED: [Named; 11] = [
     },
 ];
 
-// The line is a post, or a correction where it corrects, of this reading.
-fn check_reading(rt: &impl Abort, line: &[u8], corrects: bool, at: SiteMonth, entry: Entry) {
-    let Ok(reading) = Reading::try_from(entry) else {
-        panic!(rt; "unlawful")
+fn reading_of(rt: &impl Abort, entry: Entry) -> Reading {
+    Reading::try_from(entry).expect(rt, "unlawful")
+}
+
+fn check_post(rt: &impl Abort, case: &Full) {
+    let request = Request::Post {
+        at: case.at,
+        reading: reading_of(rt, case.entry),
     };
-    let request = if corrects {
-        Request::Correct { at, reading }
-    } else {
-        Request::Post { at, reading }
+    assert_eq!(rt; Request::read(case.line), Ok(request));
+}
+
+fn check_correction(rt: &impl Abort, case: &Full) {
+    let request = Request::Correct {
+        at: case.at,
+        reading: reading_of(rt, case.entry),
     };
-    assert_eq!(rt; Request::read(line), Ok(request));
+    assert_eq!(rt; Request::read(case.line), Ok(request));
 }
 
-impl Tried for Full {
-    fn passes(&self, rt: &impl Abort) {
-        check_reading(rt, self.line, self.corrects, self.at, self.entry);
-    }
+fn check_load(rt: &impl Abort, case: &Load) {
+    let entry = Entry {
+        demand: case.demand,
+        load: case.load,
+        ..PLAIN
+    };
+    let posted = Full {
+        line: case.line,
+        at: PLAIN_AT,
+        entry,
+    };
+    check_post(rt, &posted);
 }
 
-impl Tried for Load {
-    fn passes(&self, rt: &impl Abort) {
-        let entry = Entry {
-            demand: self.demand,
-            load: self.load,
-            ..PLAIN
-        };
-        check_reading(rt, self.line, false, PLAIN_AT, entry);
-    }
-}
-
-impl Tried for Named {
-    fn passes(&self, rt: &impl Abort) {
-        assert_eq!(rt; Request::read(self.line), Ok(self.request));
-    }
+fn check_named(rt: &impl Abort, case: &Named) {
+    assert_eq!(rt; Request::read(case.line), Ok(case.request));
 }
 
 #[test]
 fn full_readings(rt: HostRuntime) {
-    check_all(&rt, &FULL);
+    check_all(&rt, &POSTED, check_post);
+    check_all(&rt, &CORRECTED, check_correction);
 }
 
 #[test]
 fn load_sizes(rt: HostRuntime) {
-    check_all(&rt, &LOADS);
+    check_all(&rt, &LOADS, check_load);
 }
 
 #[test]
 fn without_readings(rt: HostRuntime) {
-    check_all(&rt, &NAMED);
+    check_all(&rt, &NAMED, check_named);
 }

@@ -1,7 +1,8 @@
 // Answer lines: amounts written and read back, refused lines, and the line of every refusal.
-use crate::buffer::{UNTOUCHED, check_written};
-use crate::refusal::check_refusal;
-use crate::table::{Tried, check_all};
+use crate::buffer::{UNTOUCHED, check_line, check_written};
+use crate::refusal::check_refused;
+use crate::refused_requests::Refused;
+use crate::table::check_all;
 use answer::{AmountsKind, Answer, read_amounts};
 use reading::{Fault, LINES};
 use std::process::Abort;
@@ -12,14 +13,6 @@ struct Case {
     line: &'static [u8],
     kind: AmountsKind,
     amounts: [i32; LINES],
-}
-
-// A line without amounts to read.
-#[derive(Clone, Copy)]
-struct Refused {
-    line: &'static [u8],
-    // Number, layer and place.
-    refusal: (u8, u8, u16),
 }
 
 // An answer without amounts, and its line.
@@ -490,67 +483,51 @@ const FIXED: [Line; 26] = [
 const BEFORE: [i32; LINES] = [11, -12, 13, -14, 15, -16, 17, -18, 19, -20, 21, -22, 23];
 
 // The answer's line stands in this buffer, and nothing past the line.
-fn check_line(rt: &impl Abort, answer: Answer, line: &[u8], buffer: &mut [u8]) {
-    assert_eq!(rt; answer.write(buffer), Ok(line.len()));
-    check_written(rt, buffer, line);
+fn check_answer(rt: &impl Abort, answer: Answer, line: &[u8], buffer: &mut [u8]) {
+    let written = answer.write(buffer);
+    check_line(rt, written, buffer, line);
 }
 
-impl Tried for Case {
-    fn passes(&self, rt: &impl Abort) {
-        let answer = Answer::Amounts {
-            kind: self.kind,
-            amounts: self.amounts,
-        };
-        check_line(rt, answer, self.line, &mut [UNTOUCHED; 200]);
-        let mut amounts = BEFORE;
-        assert_eq!(rt; read_amounts(self.line, &mut amounts), Ok(self.kind));
-        assert_eq!(rt; amounts, self.amounts);
-    }
+fn check_amounts(rt: &impl Abort, case: &Case) {
+    let answer = Answer::Amounts {
+        kind: case.kind,
+        amounts: case.amounts,
+    };
+    check_answer(rt, answer, case.line, &mut [UNTOUCHED; 200]);
+    let mut amounts = BEFORE;
+    assert_eq!(rt; read_amounts(case.line, &mut amounts), Ok(case.kind));
+    assert_eq!(rt; amounts, case.amounts);
 }
 
 // The place of the amounts is as it was.
-impl Tried for Refused {
-    fn passes(&self, rt: &impl Abort) {
-        let mut amounts = BEFORE;
-        match read_amounts(self.line, &mut amounts) {
-            Ok(_) => panic!(rt; "accepted"),
-            Err(fault) => {
-                check_refusal(rt, fault, self.refusal);
-                assert_eq!(rt; amounts, BEFORE);
-            }
-        }
-    }
+fn check_unread(rt: &impl Abort, case: &Refused) {
+    let mut amounts = BEFORE;
+    check_refused(rt, read_amounts(case.line, &mut amounts), case.refusal);
+    assert_eq!(rt; amounts, BEFORE);
 }
 
-impl Tried for Line {
-    fn passes(&self, rt: &impl Abort) {
-        check_line(rt, self.answer, self.line, &mut [UNTOUCHED; 128]);
-    }
+fn check_fixed(rt: &impl Abort, case: &Line) {
+    check_answer(rt, case.answer, case.line, &mut [UNTOUCHED; 128]);
 }
 
 #[test]
 fn written_and_read_back(rt: HostRuntime) {
-    check_all(&rt, &AMOUNTS);
+    check_all(&rt, &AMOUNTS, check_amounts);
 }
 
 #[test]
 fn refused_lines(rt: HostRuntime) {
-    check_all(&rt, &UNREAD);
+    check_all(&rt, &UNREAD, check_unread);
 }
 
 #[test]
 fn fixed_lines(rt: HostRuntime) {
-    check_all(&rt, &FIXED);
+    check_all(&rt, &FIXED, check_fixed);
 }
 
 #[test]
 fn short_buffer(rt: HostRuntime) {
     let mut buffer = [UNTOUCHED; 127];
-    match Answer::Closed.write(&mut buffer) {
-        Ok(_) => panic!(rt; "written"),
-        Err(fault) => {
-            check_refusal(&rt, fault, (1, 1, 0));
-            check_written(&rt, &buffer, b"")
-        }
-    }
+    check_refused(&rt, Answer::Closed.write(&mut buffer), (1, 1, 0));
+    check_written(&rt, &buffer, b"");
 }

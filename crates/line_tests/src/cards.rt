@@ -1,7 +1,7 @@
 // Card lines, accepted and refused, with the answer that stands in the buffer.
-use crate::buffer::{UNTOUCHED, check_written};
-use crate::refusal::check_refusal;
-use crate::table::{Tried, check_all};
+use crate::buffer::{UNTOUCHED, check_line, check_written};
+use crate::refusal::check_refused;
+use crate::table::check_all;
 use oregon_card::take_card;
 use std::process::Abort;
 
@@ -251,49 +251,35 @@ const FRAMES: [Case; 23] = [
 
 // The answer to a line stands in this buffer, and nothing past the answer.
 fn check_answer(rt: &impl Abort, case: &Case, buffer: &mut [u8]) {
-    match take_card(case.line, buffer) {
-        Ok(reply) => {
-            let taken = case.answer.len() == ACCEPTED.len();
-            assert_eq!(rt;
-                (reply.length, reply.card.is_ok()),
-                (case.answer.len(), taken)
-            );
-            check_written(rt, buffer, case.answer)
-        }
-        Err(_) => panic!(rt; "not written"),
-    }
+    let reply = take_card(case.line, buffer);
+    let taken = case.answer.len() == ACCEPTED.len();
+    assert_eq!(rt; reply.map(|reply| reply.card.is_ok()), Ok(taken));
+    check_line(rt, reply.map(|reply| reply.length), buffer, case.answer);
 }
 
-impl Tried for Case {
-    fn passes(&self, rt: &impl Abort) {
-        check_answer(rt, self, &mut [UNTOUCHED; 200]);
-    }
+fn check_card(rt: &impl Abort, case: &Case) {
+    check_answer(rt, case, &mut [UNTOUCHED; 200]);
 }
 
 // Number 1 comes back, whatever the line, and the buffer is as it was.
 fn check_short(rt: &impl Abort, line: &[u8], buffer: &mut [u8]) {
-    match take_card(line, buffer) {
-        Ok(_) => panic!(rt; "written"),
-        Err(fault) => {
-            check_refusal(rt, fault, (1, 1, 0));
-            check_written(rt, buffer, b"")
-        }
-    }
+    check_refused(rt, take_card(line, buffer), (1, 1, 0));
+    check_written(rt, buffer, b"");
 }
 
 #[test]
 fn accepted_cards(rt: HostRuntime) {
-    check_all(&rt, &TAKEN);
+    check_all(&rt, &TAKEN, check_card);
 }
 
 #[test]
 fn refused_characters(rt: HostRuntime) {
-    check_all(&rt, &CHARACTERS);
+    check_all(&rt, &CHARACTERS, check_card);
 }
 
 #[test]
 fn refused_frames(rt: HostRuntime) {
-    check_all(&rt, &FRAMES);
+    check_all(&rt, &FRAMES, check_card);
 }
 
 #[test]

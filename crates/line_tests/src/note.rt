@@ -1,4 +1,5 @@
 // A failure that says where it came about.
+// The other test crate has this file too: a library of both would take an Abort bound out of the tests.
 use std::fmt::Display;
 use std::process::Abort;
 

@@ -1,15 +1,16 @@
 // Tables of cases.
+// The other test crate has this file too: a library of both would take an Abort bound out of the tests.
 use crate::note::Noted;
-use std::process::Abort;
-
-// A case of a table.
-pub(crate) trait Tried {
-    fn passes(&self, rt: &impl Abort);
-}
 
 // Every case of a table passes. A failure notes the case, counted from 0.
-pub(crate) fn check_all<C: Tried>(rt: &impl Abort, cases: &[C]) {
+pub(crate) fn check_all<'a, C, F: Fn(&Noted<&'a HostRuntime, usize>, &C)>(
+    rt: &'a HostRuntime,
+    cases: &[C],
+    passes: F,
+)
+    requires { F.IsAlwaysCallable passes }
+{
     for (i, case) in cases.iter().enumerate() {
-        case.passes(&Noted(rt, i));
+        passes(&Noted(rt, i), case);
     }
 }

@@ -1,6 +1,6 @@
 // What every store does, whether over rows or over an image.
-use crate::compare::check_refused;
 use crate::note::Noted;
+use crate::refusal::check_refused;
 use crate::samples::{METERS, record_with};
 use crate::scenarios::{Scenario, on_both};
 use reading::SiteMonth;

@@ -1,18 +1,15 @@
-// Refusals by what they report.
-use reading::Fault;
+// What a store wrote.
+use std::fmt::Debug;
 use std::process::Abort;
 
-// It is refused, and the fault has this number, layer and place.
-pub(crate) fn check_refused<T: Copy>(
+// One row or slot differs, and it has become this one.
+pub(crate) fn check_one<T: PartialEq + Debug>(
     rt: &impl Abort,
-    answer: Result<T, Fault>,
-    refusal: (u8, u8, u16),
+    before: &[T; 3],
+    after: &[T; 3],
+    written: &T,
 ) {
-    match answer {
-        Ok(_) => panic!(rt; "accepted"),
-        Err(fault) => assert_eq!(rt;
-            (fault.number(), fault.layer() as u8, fault.place()),
-            refusal
-        ),
-    }
+    let mut differing = before.iter().zip(after.iter()).filter(|(a, b)| a != b);
+    assert_eq!(rt; differing.next().map(|(_, b)| b), Some(written));
+    assert!(rt; differing.next().is_none());
 }

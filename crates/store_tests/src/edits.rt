@@ -1,17 +1,16 @@
 // Records made and edited.
-use crate::compare::check_refused;
+use crate::refusal::{Refusal, check_refused};
 use crate::samples::{AT, METERS, entry_of, reading_of, record_with, row_with};
-use crate::table::{Tried, check_all};
+use crate::table::check_all;
 use reading::{Entry, Fault, SiteMonth};
 use record::{Record, Row, State};
 use std::process::Abort;
 
-// Numbers, layers and places.
-const STANDING: (u8, u8, u16) = (12, 5, 9);
+const STANDING: Refusal = (12, 5, 9);
 
-const NO_METER: (u8, u8, u16) = (13, 5, 9);
+const NO_METER: Refusal = (13, 5, 9);
 
-const RECORD_FULL: (u8, u8, u16) = (14, 5, 9);
+const RECORD_FULL: Refusal = (14, 5, 9);
 
 // The meters before an edit, the meter of the edit, and the meters after it.
 #[derive(Clone, Copy)]
@@ -21,15 +20,9 @@ struct Step {
     after: &'static [u16],
 }
 
+// The meters of a record, and the meter of an edit.
 #[derive(Clone, Copy)]
-struct Added(Step);
-
-#[derive(Clone, Copy)]
-struct TakenOut(Step);
-
-// A meter of these whose reading is corrected.
-#[derive(Clone, Copy)]
-struct Corrected {
+struct Edit {
     meters: &'static [u16],
     meter: u16,
 }
@@ -39,62 +32,55 @@ struct Corrected {
 struct NotAdded {
     meters: &'static [u16],
     meter: u16,
-    refusal: (u8, u8, u16),
+    refusal: Refusal,
 }
 
-// A meter of none of these, which can be neither corrected nor taken out.
-#[derive(Clone, Copy)]
-struct Missing {
-    meters: &'static [u16],
-    meter: u16,
-}
-
-const ADDED: [Added; 8] = [
+const ADDED: [Step; 8] = [
     // First.
-    Added(Step {
+    Step {
         before: &[2, 4, 6],
         meter: 1,
         after: &[1, 2, 4, 6],
-    }),
+    },
     // In the middle.
-    Added(Step {
+    Step {
         before: &[2, 4, 6],
         meter: 3,
         after: &[2, 3, 4, 6],
-    }),
-    Added(Step {
+    },
+    Step {
         before: &[2, 4, 6],
         meter: 5,
         after: &[2, 4, 5, 6],
-    }),
+    },
     // Last.
-    Added(Step {
+    Step {
         before: &[2, 4, 6],
         meter: 7,
         after: &[2, 4, 6, 7],
-    }),
+    },
     // The lowest and the highest meter, beside one.
-    Added(Step {
+    Step {
         before: &[1],
         meter: 0,
         after: &[0, 1],
-    }),
-    Added(Step {
+    },
+    Step {
         before: &[65_534],
         meter: 65_535,
         after: &[65_534, 65_535],
-    }),
+    },
     // The sixteenth, first and last.
-    Added(Step {
+    Step {
         before: &[2, 3, 4, 5, 6, 7, 8, 9, 10, 11, 12, 13, 14, 15, 16],
         meter: 1,
         after: &[1, 2, 3, 4, 5, 6, 7, 8, 9, 10, 11, 12, 13, 14, 15, 16],
-    }),
-    Added(Step {
+    },
+    Step {
         before: &[1, 2, 3, 4, 5, 6, 7, 8, 9, 10, 11, 12, 13, 14, 15],
         meter: 16,
         after: &[1, 2, 3, 4, 5, 6, 7, 8, 9, 10, 11, 12, 13, 14, 15, 16],
-    }),
+    },
 ];
 
 const NOT_ADDED: [NotAdded; 9] = [
@@ -148,92 +134,94 @@ const NOT_ADDED: [NotAdded; 9] = [
     },
 ];
 
-const CORRECTED: [Corrected; 6] = [
-    Corrected {
+// Meters whose reading is corrected.
+const CORRECTED: [Edit; 6] = [
+    Edit {
         meters: &[4],
         meter: 4,
     },
-    Corrected {
+    Edit {
         meters: &[2, 4, 6],
         meter: 2,
     },
-    Corrected {
+    Edit {
         meters: &[2, 4, 6],
         meter: 4,
     },
-    Corrected {
+    Edit {
         meters: &[2, 4, 6],
         meter: 6,
     },
-    Corrected {
+    Edit {
         meters: &METERS,
         meter: 257,
     },
-    Corrected {
+    Edit {
         meters: &METERS,
         meter: 65_535,
     },
 ];
 
-const MISSING: [Missing; 5] = [
-    Missing {
+// Meters of none of these, which can be neither corrected nor taken out.
+const MISSING: [Edit; 5] = [
+    Edit {
         meters: &[4],
         meter: 0,
     },
-    Missing {
+    Edit {
         meters: &[2, 4, 6],
         meter: 1,
     },
-    Missing {
+    Edit {
         meters: &[2, 4, 6],
         meter: 5,
     },
-    Missing {
+    Edit {
         meters: &[2, 4, 6],
         meter: 7,
     },
-    Missing {
+    Edit {
         meters: &METERS,
         meter: 300,
     },
 ];
 
-const TAKEN_OUT: [TakenOut; 6] = [
+const TAKEN_OUT: [Step; 6] = [
     // First.
-    TakenOut(Step {
+    Step {
         before: &[2, 4, 6],
         meter: 2,
         after: &[4, 6],
-    }),
+    },
     // In the middle.
-    TakenOut(Step {
+    Step {
         before: &[2, 4, 6],
         meter: 4,
         after: &[2, 6],
-    }),
+    },
     // Last.
-    TakenOut(Step {
+    Step {
         before: &[2, 4, 6],
         meter: 6,
         after: &[2, 4],
-    }),
+    },
     // The first and the last of sixteen.
-    TakenOut(Step {
+    Step {
         before: &[1, 2, 3, 4, 5, 6, 7, 8, 9, 10, 11, 12, 13, 14, 15, 16],
         meter: 1,
         after: &[2, 3, 4, 5, 6, 7, 8, 9, 10, 11, 12, 13, 14, 15, 16],
-    }),
-    TakenOut(Step {
+    },
+    Step {
         before: &[1, 2, 3, 4, 5, 6, 7, 8, 9, 10, 11, 12, 13, 14, 15, 16],
         meter: 16,
         after: &[1, 2, 3, 4, 5, 6, 7, 8, 9, 10, 11, 12, 13, 14, 15],
-    }),
+    },
     // Down to one.
-    TakenOut(Step {
+    Step {
         before: &[0, 65_535],
         meter: 0,
         after: &[65_535],
-    }),
+    },
 ];
 
 // Another reading of the meter.
@@ -256,78 +244,66 @@ fn check_edited(rt: &impl Abort, edited: Result<Record, Fault>, expected: &Row) 
     assert_eq!(rt; edited.expect(rt, "refused").row(), expected);
 }
 
-impl Tried for Added {
-    fn passes(&self, rt: &impl Abort) {
-        let step = self.0;
-        let reading = reading_of(rt, entry_of(step.meter));
-        let kept = record_with(rt, AT, step.before);
-        check_edited(rt, kept.with(&reading), &row_with(AT, step.after));
-    }
+fn check_added(rt: &impl Abort, step: &Step) {
+    let reading = reading_of(rt, entry_of(step.meter));
+    let kept = record_with(rt, AT, step.before);
+    check_edited(rt, kept.with(&reading), &row_with(AT, step.after));
 }
 
-impl Tried for NotAdded {
-    fn passes(&self, rt: &impl Abort) {
-        let reading = reading_of(rt, correction(self.meter));
-        let kept = record_with(rt, AT, self.meters);
-        check_refused(rt, kept.with(&reading), self.refusal);
-    }
+fn check_not_added(rt: &impl Abort, case: &NotAdded) {
+    let reading = reading_of(rt, correction(case.meter));
+    let kept = record_with(rt, AT, case.meters);
+    check_refused(rt, kept.with(&reading), case.refusal);
 }
 
-impl Tried for Corrected {
-    fn passes(&self, rt: &impl Abort) {
-        let corrected = correction(self.meter);
-        let mut expected = row_with(AT, self.meters);
-        for (entry, meter) in expected.entries.iter_mut().zip(self.meters.iter()) {
-            if *meter == self.meter {
-                *entry = corrected;
-            }
+fn check_corrected(rt: &impl Abort, edit: &Edit) {
+    let corrected = correction(edit.meter);
+    let mut expected = row_with(AT, edit.meters);
+    for (entry, meter) in expected.entries.iter_mut().zip(edit.meters.iter()) {
+        if *meter == edit.meter {
+            *entry = corrected;
         }
-        let kept = record_with(rt, AT, self.meters);
-        check_edited(rt, kept.replacing(&reading_of(rt, corrected)), &expected);
     }
+    let kept = record_with(rt, AT, edit.meters);
+    check_edited(rt, kept.replacing(&reading_of(rt, corrected)), &expected);
 }
 
-impl Tried for Missing {
-    fn passes(&self, rt: &impl Abort) {
-        let kept = record_with(rt, AT, self.meters);
-        let reading = reading_of(rt, correction(self.meter));
-        check_refused(rt, kept.replacing(&reading), NO_METER);
-        check_refused(rt, kept.without(self.meter), NO_METER);
-    }
+fn check_missing(rt: &impl Abort, edit: &Edit) {
+    let kept = record_with(rt, AT, edit.meters);
+    let reading = reading_of(rt, correction(edit.meter));
+    check_refused(rt, kept.replacing(&reading), NO_METER);
+    check_refused(rt, kept.without(edit.meter), NO_METER);
 }
 
-impl Tried for TakenOut {
-    fn passes(&self, rt: &impl Abort) {
-        let step = self.0;
-        let kept = record_with(rt, AT, step.before);
-        let left = record_with(rt, AT, step.after);
-        assert_eq!(rt; kept.without(step.meter), Ok(Some(left)));
-    }
+fn check_taken_out(rt: &impl Abort, step: &Step) {
+    let kept = record_with(rt, AT, step.before);
+    let left = record_with(rt, AT, step.after);
+    assert_eq!(rt; kept.without(step.meter), Ok(Some(left)));
 }
 
 #[test]
 fn readings_added(rt: HostRuntime) {
-    check_all(&rt, &ADDED);
+    check_all(&rt, &ADDED, check_added);
 }
 
 #[test]
 fn readings_not_added(rt: HostRuntime) {
-    check_all(&rt, &NOT_ADDED);
+    check_all(&rt, &NOT_ADDED, check_not_added);
 }
 
 #[test]
 fn readings_corrected(rt: HostRuntime) {
-    check_all(&rt, &CORRECTED);
+    check_all(&rt, &CORRECTED, check_corrected);
 }
 
 #[test]
 fn missing_meters(rt: HostRuntime) {
-    check_all(&rt, &MISSING);
+    check_all(&rt, &MISSING, check_missing);
 }
 
 #[test]
 fn readings_taken_out(rt: HostRuntime) {
-    check_all(&rt, &TAKEN_OUT);
+    check_all(&rt, &TAKEN_OUT, check_taken_out);
 }
 
 #[test]

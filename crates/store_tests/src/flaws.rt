@@ -1,17 +1,15 @@
 // Which images can be taken into use, and the flaw of those that cannot.
-use crate::compare::check_refused;
 use crate::known::{KNOWN_AT, known_closed_slot, known_slot, put};
+use crate::refusal::check_refused;
 use crate::samples::record_with;
-use crate::table::{Tried, check_all};
+use crate::table::check_all;
 use reading::{Fault, SiteMonth};
 use slot::{SLOT, encode};
 use slots::Flaw;
 use std::process::Abort;
 use std::test::*;
 
-const THREE: usize = 3 * SLOT;
-
-const FIVE: usize = 5 * SLOT;
+const EMPTY: [u8; SLOT] = [0; SLOT];
 
 // A site month of no other slot.
 const ELSEWHERE: SiteMonth = SiteMonth { site: 1, month: 1 };
@@ -29,14 +27,6 @@ struct Patch {
     from: usize,
     bytes: &'static [u8],
 }
-
-// Over the known slot.
-#[derive(Clone, Copy)]
-struct OverKnown(Patch);
-
-// Over an empty slot.
-#[derive(Clone, Copy)]
-struct OverEmpty(Patch);
 
 // The sites of five slots, 0 for an empty one, and what is told.
 #[derive(Clone, Copy)]
@@ -104,231 +94,232 @@ const SIZES: [Size; 13] = [
     },
 ];
 
-const UNLAWFUL: [OverKnown; 41] = [
+// Over the known slot.
+const UNLAWFUL: [Patch; 41] = [
     // States 3 and 255.
-    OverKnown(Patch {
+    Patch {
         from: 0,
         bytes: b"\x03",
-    }),
-    OverKnown(Patch {
+    },
+    Patch {
         from: 0,
         bytes: b"\xFF",
-    }),
+    },
     // Empty, and the rest as it was.
-    OverKnown(Patch {
+    Patch {
         from: 0,
         bytes: b"\x00",
-    }),
+    },
     // Counts 0, 1, 3, 16, 17 and 255 over two readings.
-    OverKnown(Patch {
+    Patch {
         from: 1,
         bytes: b"\x00",
-    }),
-    OverKnown(Patch {
+    },
+    Patch {
         from: 1,
         bytes: b"\x01",
-    }),
-    OverKnown(Patch {
+    },
+    Patch {
         from: 1,
         bytes: b"\x03",
-    }),
-    OverKnown(Patch {
+    },
+    Patch {
         from: 1,
         bytes: b"\x10",
-    }),
-    OverKnown(Patch {
+    },
+    Patch {
         from: 1,
         bytes: b"\x11",
-    }),
-    OverKnown(Patch {
+    },
+    Patch {
         from: 1,
         bytes: b"\xFF",
-    }),
+    },
     // Months 2,400, 2,560 and 65,535.
-    OverKnown(Patch {
+    Patch {
         from: 6,
         bytes: b"\x09\x60",
-    }),
-    OverKnown(Patch {
+    },
+    Patch {
         from: 6,
         bytes: b"\x0A\x00",
-    }),
-    OverKnown(Patch {
+    },
+    Patch {
         from: 6,
         bytes: b"\xFF\xFF",
-    }),
+    },
     // Flags 16 and 255, in the first reading and in the second.
-    OverKnown(Patch {
+    Patch {
         from: 12,
         bytes: b"\x10",
-    }),
-    OverKnown(Patch {
+    },
+    Patch {
         from: 12,
         bytes: b"\xFF",
-    }),
-    OverKnown(Patch {
+    },
+    Patch {
         from: 38,
         bytes: b"\x10",
-    }),
+    },
     // Power factor 101.
-    OverKnown(Patch {
+    Patch {
         from: 13,
         bytes: b"\x65",
-    }),
-    OverKnown(Patch {
+    },
+    Patch {
         from: 39,
         bytes: b"\x65",
-    }),
+    },
     // KWh 1,000,000 and the highest byte.
-    OverKnown(Patch {
+    Patch {
         from: 14,
         bytes: b"\x00\x0F\x42\x40",
-    }),
-    OverKnown(Patch {
+    },
+    Patch {
         from: 40,
         bytes: b"\x00\x0F\x42\x40",
-    }),
-    OverKnown(Patch {
+    },
+    Patch {
         from: 14,
         bytes: b"\x01",
-    }),
+    },
     // Off-hours one above the kWh, and the highest byte.
-    OverKnown(Patch {
+    Patch {
         from: 18,
         bytes: b"\x00\x0A\x0B\x0D",
-    }),
-    OverKnown(Patch {
+    },
+    Patch {
         from: 44,
         bytes: b"\x00\x0C\x0D\x0F",
-    }),
-    OverKnown(Patch {
+    },
+    Patch {
         from: 18,
         bytes: b"\x01",
-    }),
+    },
     // A demand of 100,000, and the highest byte.
-    OverKnown(Patch {
+    Patch {
         from: 22,
         bytes: b"\x00\x01\x86\xA0",
-    }),
-    OverKnown(Patch {
+    },
+    Patch {
         from: 48,
         bytes: b"\x00\x01\x86\xA0",
-    }),
-    OverKnown(Patch {
+    },
+    Patch {
         from: 22,
         bytes: b"\x01",
-    }),
+    },
     // A demand of 99,999 and a peak-hours demand of 100,000.
-    OverKnown(Patch {
+    Patch {
         from: 22,
         bytes: b"\x00\x01\x86\x9F\x00\x01\x86\xA0",
-    }),
+    },
     // A peak-hours demand one above the demand.
-    OverKnown(Patch {
+    Patch {
         from: 26,
         bytes: b"\x00\x01\x13\x15",
-    }),
-    OverKnown(Patch {
+    },
+    Patch {
         from: 52,
         bytes: b"\x00\x00\x16\x18",
-    }),
+    },
     // Kvar 10,000.
-    OverKnown(Patch {
+    Patch {
         from: 30,
         bytes: b"\x27\x10",
-    }),
-    OverKnown(Patch {
+    },
+    Patch {
         from: 56,
         bytes: b"\x27\x10",
-    }),
+    },
     // A load of 10,001.
-    OverKnown(Patch {
+    Patch {
         from: 32,
         bytes: b"\x27\x11",
-    }),
-    OverKnown(Patch {
+    },
+    Patch {
         from: 58,
         bytes: b"\x27\x11",
-    }),
+    },
     // The meters equal, falling by one, and falling though the low byte rises.
-    OverKnown(Patch {
+    Patch {
         from: 34,
         bytes: b"\x11\x12",
-    }),
-    OverKnown(Patch {
+    },
+    Patch {
         from: 34,
         bytes: b"\x11\x11",
-    }),
-    OverKnown(Patch {
+    },
+    Patch {
         from: 34,
         bytes: b"\x10\xFF",
-    }),
+    },
     // Unused entries: the third's first byte and its last, the fourth's first, and the last byte of the slot.
-    OverKnown(Patch {
+    Patch {
         from: 60,
         bytes: b"\x01",
-    }),
-    OverKnown(Patch {
+    },
+    Patch {
         from: 85,
         bytes: b"\x01",
-    }),
-    OverKnown(Patch {
+    },
+    Patch {
         from: 86,
         bytes: b"\x80",
-    }),
-    OverKnown(Patch {
+    },
+    Patch {
         from: 423,
         bytes: b"\x01",
-    }),
-    OverKnown(Patch {
+    },
+    Patch {
         from: 423,
         bytes: b"\xFF",
-    }),
+    },
 ];
 
-// State 0 with another byte.
-const NOT_EMPTY: [OverEmpty; 10] = [
-    OverEmpty(Patch {
+// Over an empty slot: state 0 with another byte.
+const NOT_EMPTY: [Patch; 10] = [
+    Patch {
         from: 1,
         bytes: b"\x01",
-    }),
-    OverEmpty(Patch {
+    },
+    Patch {
         from: 2,
         bytes: b"\x01",
-    }),
-    OverEmpty(Patch {
+    },
+    Patch {
         from: 5,
         bytes: b"\x01",
-    }),
-    OverEmpty(Patch {
+    },
+    Patch {
         from: 6,
         bytes: b"\x01",
-    }),
-    OverEmpty(Patch {
+    },
+    Patch {
         from: 7,
         bytes: b"\x01",
-    }),
-    OverEmpty(Patch {
+    },
+    Patch {
         from: 8,
         bytes: b"\x01",
-    }),
-    OverEmpty(Patch {
+    },
+    Patch {
         from: 33,
         bytes: b"\x01",
-    }),
-    OverEmpty(Patch {
+    },
+    Patch {
         from: 423,
         bytes: b"\x01",
-    }),
+    },
     // A used state and nothing else.
-    OverEmpty(Patch {
+    Patch {
         from: 0,
         bytes: b"\x01",
-    }),
-    OverEmpty(Patch {
+    },
+    Patch {
         from: 0,
         bytes: b"\x02",
-    }),
+    },
 ];
 
 // Site months that stand once and twice.
@@ -387,55 +378,34 @@ const SITES: [Sites; 11] = [
     },
 ];
 
-// A slot is refused as the only one, and as the last of three behind a record and an empty slot.
-fn check_unlawful(rt: &impl Abort, slot: &[u8; SLOT]) {
-    assert_eq!(rt; slots::check(slot), Err(Flaw::Unlawful { slot: 0 }));
-    let good = encode(&record_with(rt, ELSEWHERE, &[1]));
-    let mut bytes = [0; THREE];
-    put(&mut bytes, 0, &good);
-    put(&mut bytes, 2 * SLOT, slot);
-    assert_eq!(rt; slots::check(&bytes), Err(Flaw::Unlawful { slot: 2 }));
+// A patched slot is refused as the only one, and as the last of three behind a record and an empty slot.
+fn check_patched(rt: &impl Abort, mut slot: [u8; SLOT], patch: &Patch) {
+    put(&mut slot, patch.from, patch.bytes);
+    assert_eq!(rt; slots::check(&slot), Err(Flaw::Unlawful { slot: 0 }));
+    let three = [encode(&record_with(rt, ELSEWHERE, &[1])), EMPTY, slot];
+    let told = slots::check(three.as_flattened());
+    assert_eq!(rt; told, Err(Flaw::Unlawful { slot: 2 }));
 }
 
-impl Tried for OverKnown {
-    fn passes(&self, rt: &impl Abort) {
-        let mut slot = known_slot();
-        put(&mut slot, self.0.from, self.0.bytes);
-        check_unlawful(rt, &slot);
-    }
+fn check_over_known(rt: &impl Abort, patch: &Patch) {
+    check_patched(rt, known_slot(), patch);
 }
 
-impl Tried for OverEmpty {
-    fn passes(&self, rt: &impl Abort) {
-        let mut slot = [0; SLOT];
-        put(&mut slot, self.0.from, self.0.bytes);
-        check_unlawful(rt, &slot);
-    }
+fn check_over_empty(rt: &impl Abort, patch: &Patch) {
+    check_patched(rt, EMPTY, patch);
 }
 
-impl Tried for Sites {
-    fn passes(&self, rt: &impl Abort) {
-        let mut bytes = [0; FIVE];
-        put_sites(rt, &mut bytes, &self.sites);
-        assert_eq!(rt; slots::check(&bytes), self.told);
+// The slot of a site's record in one month, or an empty one for site 0.
+fn slot_of(rt: &impl Abort, site: u32) -> [u8; SLOT] {
+    if site == 0 {
+        return EMPTY;
     }
+    encode(&record_with(rt, SiteMonth { site, month: 3 }, &[5]))
 }
 
-// Writes the records of the sites in one month to the slots, and leaves those of site 0.
-fn put_sites(rt: &impl Abort, bytes: &mut [u8], sites: &[u32]) {
-    for (i, site) in sites.iter().enumerate() {
-        if *site != 0 {
-            let at = SiteMonth {
-                site: *site,
-                month: 3,
-            };
-            put(
-                bytes,
-                SLOT.wrapping_mul(i),
-                &encode(&record_with(rt, at, &[5])),
-            );
-        }
-    }
+fn check_sites(rt: &impl Abort, case: &Sites) {
+    let slots = case.sites.map(|site| slot_of(rt, site));
+    assert_eq!(rt; slots::check(slots.as_flattened()), case.told);
 }
 
 #[test]
@@ -449,17 +419,17 @@ fn sizes(rt: HostRuntime) -> Result<(), Fail> {
 
 #[test]
 fn unlawful_slots(rt: HostRuntime) {
-    check_all(&rt, &UNLAWFUL);
+    check_all(&rt, &UNLAWFUL, check_over_known);
 }
 
 #[test]
 fn not_empty_slots(rt: HostRuntime) {
-    check_all(&rt, &NOT_EMPTY);
+    check_all(&rt, &NOT_EMPTY, check_over_empty);
 }
 
 #[test]
 fn site_months(rt: HostRuntime) {
-    check_all(&rt, &SITES);
+    check_all(&rt, &SITES, check_sites);
 }
 
 #[test]
@@ -471,16 +441,10 @@ fn lawful_slots(rt: HostRuntime) {
 // The state and the readings make no other site month.
 #[test]
 fn twice_open_and_closed(rt: HostRuntime) {
-    let mut bytes = [0; THREE];
-    put(&mut bytes, 0, &known_closed_slot());
-    put(&mut bytes, SLOT, &known_slot());
-    put(
-        &mut bytes,
-        2 * SLOT,
-        &encode(&record_with(&rt, KNOWN_AT, &[5])),
-    );
+    let known = record_with(&rt, KNOWN_AT, &[5]);
+    let slots = [known_closed_slot(), known_slot(), encode(&known)];
     assert_eq!(rt;
-        slots::check(&bytes),
+        slots::check(slots.as_flattened()),
         Err(Flaw::Twice { slot: 0, again: 1 })
     );
 }
@@ -489,12 +453,11 @@ fn twice_open_and_closed(rt: HostRuntime) {
 #[test]
 fn site_month_of_zeros(rt: HostRuntime) {
     let at = SiteMonth { site: 0, month: 0 };
-    let mut bytes = [0; THREE];
-    put(&mut bytes, SLOT, &encode(&record_with(&rt, at, &[5])));
-    assert_eq!(rt; slots::check(&bytes), Ok(()));
-    put(&mut bytes, 2 * SLOT, &encode(&record_with(&rt, at, &[6])));
+    let mut slots = [EMPTY, encode(&record_with(&rt, at, &[5])), EMPTY];
+    assert_eq!(rt; slots::check(slots.as_flattened()), Ok(()));
+    slots[2] = encode(&record_with(&rt, at, &[6]));
     assert_eq!(rt;
-        slots::check(&bytes),
+        slots::check(slots.as_flattened()),
         Err(Flaw::Twice { slot: 1, again: 2 })
     );
 }
@@ -502,14 +465,16 @@ fn site_month_of_zeros(rt: HostRuntime) {
 // The size comes first, then the slots, and then the site months.
 #[test]
 fn first_flaw(rt: HostRuntime) {
-    let mut bytes = [0; THREE];
-    put(&mut bytes, 0, &known_slot());
-    put(&mut bytes, SLOT, &known_slot());
-    put(&mut bytes, 2 * SLOT, b"\x03");
-    assert_eq!(rt; slots::check(&bytes), Err(Flaw::Unlawful { slot: 2 }));
+    let mut slots = [known_slot(), known_slot(), EMPTY];
+    slots[2][0] = 3;
+    let bytes = slots.as_flattened();
+    assert_eq!(rt; slots::check(bytes), Err(Flaw::Unlawful { slot: 2 }));
     assert_eq!(rt; slots::check(&bytes[0..1_271]), Err(Flaw::PartSlot));
-    put(&mut bytes, SLOT, b"\x03");
-    assert_eq!(rt; slots::check(&bytes), Err(Flaw::Unlawful { slot: 1 }));
+    slots[1][0] = 3;
+    assert_eq!(rt;
+        slots::check(slots.as_flattened()),
+        Err(Flaw::Unlawful { slot: 1 })
+    );
 }
 
 // The refusal that every flaw comes to.

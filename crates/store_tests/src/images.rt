@@ -1,111 +1,90 @@
 // An image as a store: what is written to its bytes.
-use crate::known::{known_record, known_slot, put};
+use crate::compare::check_one;
+use crate::known::{known_record, known_slot};
 use crate::note::Noted;
-use crate::samples::record_with;
-use image_store::Image;
-use reading::SiteMonth;
+use crate::opened::on_image;
+use crate::samples::sited;
+use reading::{Fault, SiteMonth};
 use record::Record;
 use slot::{SLOT, encode};
 use std::process::Abort;
 use store::Store;
 
-const THREE: usize = 3 * SLOT;
+// The slots of an image.
+type Slots = [[u8; SLOT]; 3];
 
-// Keeps a record in an image, and says whether it was accepted.
-fn keep(rt: &impl Abort, bytes: &mut [u8], kept: &Record) -> bool {
-    let Ok(()) = slots::check(bytes) else {
-        panic!(rt; "unusable image")
-    };
-    Image::open(bytes).keep(kept).is_ok()
+const EMPTY: Slots = [[0; SLOT]; 3];
+
+fn keep(rt: &impl Abort, slots: &mut Slots, kept: &Record) -> Result<(), Fault> {
+    on_image(rt, slots.as_flattened_mut(), |image| image.keep(kept))
 }
 
-// Removes a record from an image, and says whether it was held.
-fn remove(rt: &impl Abort, bytes: &mut [u8], at: SiteMonth) -> bool {
-    let Ok(()) = slots::check(bytes) else {
-        panic!(rt; "unusable image")
-    };
-    Image::open(bytes).remove(at)
+fn remove(rt: &impl Abort, slots: &mut Slots, at: SiteMonth) -> bool {
+    on_image(rt, slots.as_flattened_mut(), |image| image.remove(at))
 }
 
-// Copies a record from an image, and says whether it is held.
-fn read(rt: &impl Abort, bytes: &mut [u8], at: SiteMonth, place: &mut Record) -> bool {
-    let Ok(()) = slots::check(bytes) else {
-        panic!(rt; "unusable image")
-    };
-    Image::open(bytes).read(at, place)
-}
-
-// The record of a site in one month.
-fn sited(rt: &impl Abort, site: u32) -> Record {
-    record_with(rt, SiteMonth { site, month: 3 }, &[5, 6])
-}
-
-// Three slots with the records of sites 1 to 3, the image being taken into use anew for each.
-fn full_image(rt: &impl Abort) -> [u8; THREE] {
-    let mut bytes = [0; THREE];
-    assert!(rt; keep(rt, &mut bytes, &sited(rt, 1)));
-    assert!(rt; keep(rt, &mut bytes, &sited(rt, 2)));
-    assert!(rt; keep(rt, &mut bytes, &sited(rt, 3)));
-    bytes
-}
-
-// One slot differs, and it has become this one.
-fn check_one(rt: &impl Abort, before: &[u8; THREE], after: &[u8; THREE], slot: &[u8; SLOT]) {
-    let slots = before.chunks_exact(SLOT).zip(after.chunks_exact(SLOT));
-    let mut differing = slots.filter(|(a, b)| a != b);
-    assert_eq!(rt; differing.next().map(|(_, b)| b), Some(slot.as_slice()));
-    assert!(rt; differing.next().is_none());
+// The records of sites 1 to 3, the image being taken into use anew for each.
+fn full_image(rt: &impl Abort) -> Slots {
+    let mut slots = EMPTY;
+    for site in 1..4u32 {
+        assert_eq!(rt; keep(rt, &mut slots, &sited(rt, site)), Ok(()));
+    }
+    slots
 }
 
 #[test]
 fn reading_writes_nothing(rt: HostRuntime) {
-    let mut bytes = [0; THREE];
-    put(&mut bytes, SLOT, &known_slot());
-    let before = bytes;
+    let mut slots = EMPTY;
+    slots[1] = known_slot();
+    let before = slots;
     let known = known_record(&rt);
     let mut place = sited(&rt, 1);
-    assert!(rt; read(&rt, &mut bytes, known.at(), &mut place));
+    let bytes = slots.as_flattened_mut();
+    let held = on_image(&rt, bytes, |image| image.read(known.at(), &mut place));
+    assert!(rt; held);
     assert_eq!(rt; place, known);
-    assert_eq!(rt; bytes, before);
+    assert_eq!(rt; slots, before);
 }
 
 // The record is kept, and becomes one slot.
-fn check_keeps(rt: &impl Abort, bytes: &mut [u8; THREE], kept: &Record) {
-    let before = *bytes;
-    assert!(rt; keep(rt, bytes, kept));
-    check_one(rt, &before, bytes, &encode(kept));
+fn check_keeps(rt: &impl Abort, slots: &mut Slots, kept: &Record) {
+    let before = *slots;
+    assert_eq!(rt; keep(rt, slots, kept), Ok(()));
+    check_one(rt, &before, slots, &encode(kept));
 }
 
 #[test]
 fn keeping_writes_one_slot(rt: HostRuntime) {
-    let mut bytes = [0; THREE];
-    check_keeps(&rt, &mut bytes, &sited(&rt, 1));
-    check_keeps(&rt, &mut bytes, &sited(&rt, 2));
-    check_keeps(&rt, &mut bytes, &sited(&rt, 3));
+    let mut slots = EMPTY;
+    for site in 1..4u32 {
+        let rt = &Noted(&rt, site);
+        check_keeps(rt, &mut slots, &sited(rt, site));
+    }
 }
 
 #[test]
 fn keeping_again_writes_its_own_slot(rt: HostRuntime) {
-    let mut bytes = full_image(&rt);
-    check_keeps(&rt, &mut bytes, &sited(&rt, 1).closed());
-    check_keeps(&rt, &mut bytes, &sited(&rt, 2).closed());
-    check_keeps(&rt, &mut bytes, &sited(&rt, 3).closed());
+    let mut slots = full_image(&rt);
+    for site in 1..4u32 {
+        let rt = &Noted(&rt, site);
+        check_keeps(rt, &mut slots, &sited(rt, site).closed());
+    }
 }
 
 #[test]
 fn refusing_writes_nothing(rt: HostRuntime) {
     let before = full_image(&rt);
-    let mut bytes = before;
-    assert!(rt; !keep(&rt, &mut bytes, &sited(&rt, 4)));
-    assert_eq!(rt; bytes, before);
+    let mut slots = before;
+    assert!(rt; keep(&rt, &mut slots, &sited(&rt, 4)).is_err());
+    assert_eq!(rt; slots, before);
 }
 
 #[test]
 fn missing_writes_nothing(rt: HostRuntime) {
     let before = full_image(&rt);
-    let mut bytes = before;
-    assert!(rt; !remove(&rt, &mut bytes, sited(&rt, 4).at()));
-    assert_eq!(rt; bytes, before);
+    let mut slots = before;
+    assert!(rt; !remove(&rt, &mut slots, sited(&rt, 4).at()));
+    assert_eq!(rt; slots, before);
 }
 
 #[test]
@@ -113,16 +92,16 @@ fn removing_zeroes_one_slot(rt: HostRuntime) {
     let before = full_image(&rt);
     for site in 1..4u32 {
         let rt = &Noted(&rt, site);
-        let mut bytes = before;
-        assert!(rt; remove(rt, &mut bytes, sited(rt, site).at()));
-        check_one(rt, &before, &bytes, &[0; SLOT]);
+        let mut slots = before;
+        assert!(rt; remove(rt, &mut slots, sited(rt, site).at()));
+        check_one(rt, &before, &slots, &[0; SLOT]);
     }
 }
 
 #[test]
 fn kept_and_removed(rt: HostRuntime) {
-    let mut bytes = [0; THREE];
-    assert!(rt; keep(&rt, &mut bytes, &sited(&rt, 1)));
-    assert!(rt; remove(&rt, &mut bytes, sited(&rt, 1).at()));
-    assert_eq!(rt; bytes, [0; THREE]);
+    let mut slots = EMPTY;
+    assert_eq!(rt; keep(&rt, &mut slots, &sited(&rt, 1)), Ok(()));
+    assert!(rt; remove(&rt, &mut slots, sited(&rt, 1).at()));
+    assert_eq!(rt; slots, EMPTY);
 }

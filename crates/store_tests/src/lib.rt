@@ -16,7 +16,11 @@ mod known;
 #[cfg(test)]
 mod note;
 #[cfg(test)]
+mod opened;
+#[cfg(test)]
 mod records;
+#[cfg(test)]
+mod refusal;
 #[cfg(test)]
 mod rows;
 #[cfg(test)]

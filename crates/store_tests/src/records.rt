@@ -1,6 +1,6 @@
 // Which rows are records.
 use crate::samples::{AT, METERS, entry_of, row_of, row_with};
-use crate::table::{Tried, check_all};
+use crate::table::check_all;
 use reading::{Entry, SiteMonth, Unlawful};
 use record::{BLANK, Record, Row, State, VACANT};
 use std::process::Abort;
@@ -17,12 +17,6 @@ struct Limit {
 struct Order {
     meters: &'static [u16],
     lawful: bool,
-}
-
-// An entry that is not zero, in a place that is not in use.
-#[derive(Clone, Copy)]
-struct Unused {
-    entry: Entry,
 }
 
 // A state, month and count over three readings, and whether the row is a record.
@@ -229,50 +223,30 @@ const ORDERS: [Order; 12] = [
     },
 ];
 
-// Each field alone.
-const UNUSED: [Unused; 10] = [
-    Unused {
-        entry: Entry { meter: 1, ..BLANK },
+// Entries that are not zero, each in one field.
+const UNUSED: [Entry; 10] = [
+    Entry { meter: 1, ..BLANK },
+    Entry {
+        schedule: 1,
+        ..BLANK
     },
-    Unused {
-        entry: Entry {
-            schedule: 1,
-            ..BLANK
-        },
+    Entry { flags: 1, ..BLANK },
+    Entry {
+        power_factor: 1,
+        ..BLANK
     },
-    Unused {
-        entry: Entry { flags: 1, ..BLANK },
+    Entry { kwh: 1, ..BLANK },
+    Entry {
+        off_hours: 1,
+        ..BLANK
     },
-    Unused {
-        entry: Entry {
-            power_factor: 1,
-            ..BLANK
-        },
+    Entry { demand: 1, ..BLANK },
+    Entry {
+        peak_demand: 1,
+        ..BLANK
     },
-    Unused {
-        entry: Entry { kwh: 1, ..BLANK },
-    },
-    Unused {
-        entry: Entry {
-            off_hours: 1,
-            ..BLANK
-        },
-    },
-    Unused {
-        entry: Entry { demand: 1, ..BLANK },
-    },
-    Unused {
-        entry: Entry {
-            peak_demand: 1,
-            ..BLANK
-        },
-    },
-    Unused {
-        entry: Entry { kvar: 1, ..BLANK },
-    },
-    Unused {
-        entry: Entry { load: 1, ..BLANK },
-    },
+    Entry { kvar: 1, ..BLANK },
+    Entry { load: 1, ..BLANK },
 ];
 
 const HEADINGS: [Heading; 11] = [
@@ -357,62 +331,54 @@ fn check_lawful(rt: &impl Abort, row: &Row, lawful: bool) {
     }
 }
 
-impl Tried for Limit {
-    // Alone, and as the last of three.
-    fn passes(&self, rt: &impl Abort) {
-        check_lawful(rt, &row_of(AT, &[self.entry]), self.lawful);
-        let entries = [entry_of(1), entry_of(2), self.entry];
-        check_lawful(rt, &row_of(AT, &entries), self.lawful);
-    }
+// Alone, and as the last of three.
+fn check_limit(rt: &impl Abort, limit: &Limit) {
+    check_lawful(rt, &row_of(AT, &[limit.entry]), limit.lawful);
+    let entries = [entry_of(1), entry_of(2), limit.entry];
+    check_lawful(rt, &row_of(AT, &entries), limit.lawful);
 }
 
-impl Tried for Order {
-    fn passes(&self, rt: &impl Abort) {
-        check_lawful(rt, &row_with(AT, self.meters), self.lawful);
-    }
+fn check_order(rt: &impl Abort, order: &Order) {
+    check_lawful(rt, &row_with(AT, order.meters), order.lawful);
 }
 
-impl Tried for Unused {
-    // Behind the only reading, and in the last place.
-    fn passes(&self, rt: &impl Abort) {
-        let mut row = row_with(AT, &[4]);
-        row.entries[1] = self.entry;
-        check_lawful(rt, &row, false);
-        row.entries[1] = BLANK;
-        check_lawful(rt, &row, true);
-        row.entries[15] = self.entry;
-        check_lawful(rt, &row, false);
-    }
+// Behind the only reading, and in the last place.
+fn check_unused(rt: &impl Abort, entry: &Entry) {
+    let mut row = row_with(AT, &[4]);
+    row.entries[1] = *entry;
+    check_lawful(rt, &row, false);
+    row.entries[1] = BLANK;
+    check_lawful(rt, &row, true);
+    row.entries[15] = *entry;
+    check_lawful(rt, &row, false);
 }
 
-impl Tried for Heading {
-    fn passes(&self, rt: &impl Abort) {
-        let mut row = row_with(AT, &[1, 2, 3]);
-        row.state = self.state;
-        row.at.month = self.month;
-        row.count = self.count;
-        check_lawful(rt, &row, self.lawful);
-    }
+fn check_heading(rt: &impl Abort, heading: &Heading) {
+    let mut row = row_with(AT, &[1, 2, 3]);
+    row.state = heading.state;
+    row.at.month = heading.month;
+    row.count = heading.count;
+    check_lawful(rt, &row, heading.lawful);
 }
 
 #[test]
 fn limits_of_readings(rt: HostRuntime) {
-    check_all(&rt, &LIMITS);
+    check_all(&rt, &LIMITS, check_limit);
 }
 
 #[test]
 fn orders_of_meters(rt: HostRuntime) {
-    check_all(&rt, &ORDERS);
+    check_all(&rt, &ORDERS, check_order);
 }
 
 #[test]
 fn unused_entries(rt: HostRuntime) {
-    check_all(&rt, &UNUSED);
+    check_all(&rt, &UNUSED, check_unused);
 }
 
 #[test]
 fn headings(rt: HostRuntime) {
-    check_all(&rt, &HEADINGS);
+    check_all(&rt, &HEADINGS, check_heading);
 }
 
 #[test]

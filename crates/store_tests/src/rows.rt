@@ -1,9 +1,10 @@
 // Rows as a store: which can be taken into use, and what is written to them.
-use crate::compare::check_refused;
+use crate::compare::check_one;
 use crate::note::Noted;
-use crate::samples::record_with;
+use crate::refusal::check_refused;
+use crate::samples::sited;
 use reading::{Entry, SiteMonth};
-use record::{Record, Row, State, VACANT};
+use record::{Row, State, VACANT};
 use row_store::Rows;
 use std::alloc::Global;
 use std::process::Abort;
@@ -73,11 +74,6 @@ const JUNK: Row = Row {
     entries: [HIGH; 16],
 };
 
-// The record of a site in one month.
-fn sited(rt: &impl Abort, site: u32) -> Record {
-    record_with(rt, SiteMonth { site, month: 3 }, &[5, 6])
-}
-
 // Three rows in which the records of these sites were kept one after the other, as far as there was room.
 fn rows_with(rt: &impl Abort, sites: &[u32]) -> [Row; 3] {
     let mut rows = [JUNK; 3];
@@ -89,13 +85,6 @@ fn keep_all<S: Store>(rt: &impl Abort, store: &mut S, sites: &[u32]) {
     for site in sites.iter() {
         let _ = store.keep(&sited(rt, *site));
     }
-}
-
-// One row differs, and it has become this one.
-fn check_one(rt: &impl Abort, before: &[Row; 3], after: &[Row; 3], row: &Row) {
-    let mut differing = before.iter().zip(after.iter()).filter(|(a, b)| a != b);
-    assert_eq!(rt; differing.next().map(|(_, b)| b), Some(row));
-    assert!(rt; differing.next().is_none());
 }
 
 fn check_count(rt: &impl Abort, heap: Global, count: Count) -> Result<(), Fail> {

@@ -1,6 +1,6 @@
 // Readings, rows and records to test with.
 use reading::{Entry, Reading, SiteMonth};
-use record::{BLANK, READINGS, Record, Row, State};
+use record::{BLANK, Record, Row, State};
 use std::array;
 use std::process::Abort;
 
@@ -36,22 +36,22 @@ pub(crate) fn reading_of(rt: &impl Abort, entry: Entry) -> Reading {
 
 // An open row of a site month with these entries, lawful or not, all of them in use.
 pub(crate) fn row_of(at: SiteMonth, entries: &[Entry]) -> Row {
-    let all = array::from_fn(|i| entries.get(i).copied().unwrap_or(BLANK));
-    opened(at, entries.len(), all)
+    row_from(at, entries, |entry| entry)
 }
 
 // An open row of a site month with a reading of each meter.
 pub(crate) fn row_with(at: SiteMonth, meters: &[u16]) -> Row {
-    let all = array::from_fn(|i| meters.get(i).map_or(BLANK, |meter| entry_of(*meter)));
-    opened(at, meters.len(), all)
+    row_from(at, meters, entry_of)
 }
 
-fn opened(at: SiteMonth, count: usize, entries: [Entry; READINGS]) -> Row {
+fn row_from<T: Copy, F: Fn(T) -> Entry>(at: SiteMonth, items: &[T], entry: F) -> Row
+    requires { F.IsAlwaysCallable entry }
+{
     Row {
         at,
         state: State::Open,
-        count,
-        entries,
+        count: items.len(),
+        entries: array::from_fn(|i| items.get(i).map_or(BLANK, |item| entry(*item))),
     }
 }
 
@@ -62,4 +62,9 @@ pub(crate) fn record_of(rt: &impl Abort, row: Row) -> Record {
 // An open record of a site month with a reading of each meter.
 pub(crate) fn record_with(rt: &impl Abort, at: SiteMonth, meters: &[u16]) -> Record {
     record_of(rt, row_with(at, meters))
+}
+
+// The record of a site in one month.
+pub(crate) fn sited(rt: &impl Abort, site: u32) -> Record {
+    record_with(rt, SiteMonth { site, month: 3 }, &[5, 6])
 }

@@ -1,8 +1,7 @@
 // Running a scenario over both stores, small ones and the largest.
 use crate::note::Noted;
-use image_store::Image;
-use record::{Row, VACANT};
-use row_store::Rows;
+use crate::opened::{on_image, on_rows};
+use record::VACANT;
 use slot::SLOT;
 use std::alloc::Global;
 use std::process::Abort;
@@ -16,28 +15,16 @@ pub(crate) trait Scenario {
 
 const CAPACITIES: [usize; 4] = [1, 2, 5, 1_024];
 
-fn on_rows<P: Scenario>(rt: &impl Abort, rows: &mut [Row]) {
-    let Ok(()) = Rows::check(rows) else {
-        panic!(rt; "unusable rows")
-    };
-    P::play(rt, &mut Rows::open(rows))
-}
-
-fn on_image<P: Scenario>(rt: &impl Abort, bytes: &mut [u8]) {
-    let Ok(()) = slots::check(bytes) else {
-        panic!(rt; "unusable image")
-    };
-    P::play(rt, &mut Image::open(bytes))
-}
-
 // The scenario in each store of each capacity. A failure notes the capacity.
 pub(crate) fn on_both<P: Scenario>(rt: &impl Abort, heap: Global) -> Result<(), Fail> {
     for capacity in CAPACITIES.iter() {
         let rt = &Noted(rt, *capacity);
         let mut rows = vec![in heap; VACANT; *capacity]?;
-        on_rows::<P>(&Noted(rt, "rows"), rows.as_mut_slice());
+        let noted = &Noted(rt, "rows");
+        on_rows(noted, rows.as_mut_slice(), |store| P::play(noted, store));
         let mut bytes = vec![in heap; 0u8; SLOT.wrapping_mul(*capacity)]?;
-        on_image::<P>(&Noted(rt, "image"), bytes.as_mut_slice());
+        let noted = &Noted(rt, "image");
+        on_image(noted, bytes.as_mut_slice(), |store| P::play(noted, store));
     }
     Ok(())
 }
