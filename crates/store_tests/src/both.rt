@@ -5,6 +5,7 @@ use crate::samples::{METERS, record_with};
 use crate::scenarios::{Scenario, on_both};
 use reading::SiteMonth;
 use record::Record;
+use std::ops::Range;
 use std::process::Abort;
 use std::test::*;
 use store::Store;
@@ -94,9 +95,9 @@ fn check_full<S: Store>(rt: &impl Abort, store: &mut S, kept: &Record) {
     check_refused(rt, store.keep(kept), (15, 6, 3));
 }
 
-// The records of the first numbers are held.
-fn check_first<S: Store>(rt: &impl Abort, store: &S, count: u32) {
-    for n in 0..count {
+// The records of these numbers are held.
+fn check_numbers<S: Store>(rt: &impl Abort, store: &S, numbers: Range<u32>) {
+    for n in numbers {
         let rt = &Noted(rt, n);
         check_held(rt, store, &numbered(rt, n));
     }
@@ -127,12 +128,12 @@ impl Scenario for StartsEmpty {
 impl Scenario for FillsUp {
     fn play<S: Store>(rt: &impl Abort, store: &mut S) {
         let count = fill(rt, store);
-        check_first(rt, store, count);
+        check_numbers(rt, store, 0..count);
         check_full(rt, store, &numbered(rt, count));
         check_missing(rt, store, site_month(count));
-        check_first(rt, store, count);
+        check_numbers(rt, store, 0..count);
         assert!(rt; !store.remove(site_month(count)));
-        check_first(rt, store, count);
+        check_numbers(rt, store, 0..count);
     }
 }
 
@@ -163,10 +164,7 @@ impl Scenario for ReusesRoom {
             check_kept(rt, store, &numbered(rt, count.wrapping_add(n)));
             check_full(rt, store, &numbered(rt, n));
         }
-        for n in 0..count {
-            let rt = &Noted(rt, n);
-            check_held(rt, store, &numbered(rt, count.wrapping_add(n)));
-        }
+        check_numbers(rt, store, count..count.wrapping_add(count));
     }
 }
 
@@ -182,7 +180,7 @@ impl Scenario for EmptiesOut {
         }
         let again = fill(rt, store);
         assert_eq!(rt; again, count);
-        check_first(rt, store, count);
+        check_numbers(rt, store, 0..count);
     }
 }
 

@@ -162,7 +162,7 @@ const CORRECTED: [Edit; 6] = [
     },
 ];
 
-// Meters of none of these, which can be neither corrected nor taken out.
+// Meters without a reading, which can be neither corrected nor taken out.
 const MISSING: [Edit; 5] = [
     Edit {
         meters: &[4],

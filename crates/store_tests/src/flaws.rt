@@ -387,14 +387,6 @@ fn check_patched(rt: &impl Abort, mut slot: [u8; SLOT], patch: &Patch) {
     assert_eq!(rt; told, Err(Flaw::Unlawful { slot: 2 }));
 }
 
-fn check_over_known(rt: &impl Abort, patch: &Patch) {
-    check_patched(rt, known_slot(), patch);
-}
-
-fn check_over_empty(rt: &impl Abort, patch: &Patch) {
-    check_patched(rt, EMPTY, patch);
-}
-
 // The slot of a site's record in one month, or an empty one for site 0.
 fn slot_of(rt: &impl Abort, site: u32) -> [u8; SLOT] {
     if site == 0 {
@@ -419,12 +411,14 @@ fn sizes(rt: HostRuntime) -> Result<(), Fail> {
 
 #[test]
 fn unlawful_slots(rt: HostRuntime) {
-    check_all(&rt, &UNLAWFUL, check_over_known);
+    check_all(&rt, &UNLAWFUL, |rt, patch| {
+        check_patched(rt, known_slot(), patch)
+    });
 }
 
 #[test]
 fn not_empty_slots(rt: HostRuntime) {
-    check_all(&rt, &NOT_EMPTY, check_over_empty);
+    check_all(&rt, &NOT_EMPTY, |rt, patch| check_patched(rt, EMPTY, patch));
 }
 
 #[test]
@@ -466,11 +460,11 @@ fn site_month_of_zeros(rt: HostRuntime) {
 #[test]
 fn first_flaw(rt: HostRuntime) {
     let mut slots = [known_slot(), known_slot(), EMPTY];
-    slots[2][0] = 3;
+    put(&mut slots[2], 0, b"\x03");
     let bytes = slots.as_flattened();
     assert_eq!(rt; slots::check(bytes), Err(Flaw::Unlawful { slot: 2 }));
     assert_eq!(rt; slots::check(&bytes[0..1_271]), Err(Flaw::PartSlot));
-    slots[1][0] = 3;
+    put(&mut slots[1], 0, b"\x03");
     assert_eq!(rt;
         slots::check(slots.as_flattened()),
         Err(Flaw::Unlawful { slot: 1 })
