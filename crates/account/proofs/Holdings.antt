@@ -6,19 +6,12 @@ use Rattle.reading.specs.declared.entry.Entry.{Entry}
 use Rattle.reading.specs.declared.site_month.SiteMonth.{SiteMonth}
 use Rattle.record.specs.Holding.{Holding, same}
 use Rattle.store.specs.Meaning.{look_up, holds, once}
+use Rattle.store.proofs.Keys.{same_is, same_itself}
 use Rattle.account.specs.Change.{put, without, left_with}
 use Rattle.account.specs.Readings.{readings_at, closed_at}
 
-pub same_true : (a b : SiteMonth) → same a b ≡ true → a ≡ b
-same_true a b h =
-    let p = and_parts (eqb a.site b.site) (eqb a.month b.month) h in
-    ap₂ (λ site month. record { site = site; month = month }) (eqb-true a.site b.site p.0) (eqb-true a.month b.month p.1)
-
-pub same_self : (a : SiteMonth) → same a a ≡ true
-same_self a = grind (arith, nat_tests)
-
 pub look_up_same : (a b : SiteMonth) (held : List Holding) → same a b ≡ true → look_up a held ≡ look_up b held
-look_up_same a b held s = ap (λ at. look_up at held) (same_true a b s)
+look_up_same a b held s = ap (λ at. look_up at held) (same_is a b s)
 
 pub look_up_put : (h : Holding) (held : List Holding) (at : SiteMonth) → look_up at (put h held) ≡ cond (same at h.at) (Some h) (look_up at held)
 look_up_put h [] at = refl
@@ -60,8 +53,8 @@ once_without at (g ∷ held) o =
 -- Between a site month's readings and what is held.
 module _ (at : SiteMonth) (held : List Holding) (o : once held ≡ true) where
   pub readings_with : (es : List Entry) → readings_at at (left_with at es held) ≡ es
-  readings_with [] = rw (look_up_without at held o at, same_self at)
-  readings_with (e ∷ es) = rw (look_up_put (record { at = at; closed = closed_at at held; readings = e ∷ es }) held at, same_self at)
+  readings_with [] = rw (look_up_without at held o at, same_itself at)
+  readings_with (e ∷ es) = rw (look_up_put (record { at = at; closed = closed_at at held; readings = e ∷ es }) held at, same_itself at)
 
   pub others_with : (other : SiteMonth) → same other at ≡ false → (es : List Entry) → look_up other (left_with at es held) ≡ look_up other held
   others_with other differs [] = rw (look_up_without at held o other, differs)

@@ -24,19 +24,20 @@ use Rattle.record.specs.declared.row.Row.{Row}
 use Rattle.store.specs.Changes.{full_test, Kept}
 use Rattle.store.specs.Meaning as store
 use Rattle.store.specs.Meaning.{look_up, once}
+use Rattle.store.proofs.Keys.{same_is}
 use Rattle.account.specs.Change.{put, left_with, change, Left, Leaves}
 use Rattle.account.specs.Edits.{Edited, Comes, Edits}
 use Rattle.account.specs.Readings.{Of, found, readings_of, closed_of, readings_at, closed_at}
 use Rattle.account.specs.Reply.{differences, altered, answer_to, taken, Responds}
 use Rattle.account.specs.declared.held.Held.{Held}
 use Rattle.account.specs.Tests.{closed_test, standing_test, missing_test, record_full_test, ruled, decided}
-use Rattle.account.proofs.Holdings.{same_true, with_some}
+use Rattle.account.proofs.Holdings.{with_some}
 use Rattle.account.proofs.Served.{kept_put, kept_refused, removed_without, altered_to}
 
 -- The record that is looked up is the site month's.
 pub own : (at : SiteMonth) (held : List Holding) → Of at (look_up at held)
 own at [] = tt
-own at (h ∷ held) = cond_both (same at h.at) (Some h) (look_up at held) (Of at) (λ yes. sym (same_true at h.at yes)) (λ _. own at held)
+own at (h ∷ held) = cond_both (same at h.at) (Some h) (look_up at held) (Of at) (λ yes. sym (same_is at h.at yes)) (λ _. own at held)
 
 pub unchanged : (s : store.Meaning) → Leaves s s.held s
 unchanged s = record { capacity = refl; each = λ at. refl; count = refl }

@@ -23,13 +23,14 @@ use Rattle.book.specs.Settled.{settled}
 use Rattle.record.specs.Edits.{added, replaced, taken_out}
 use Rattle.record.specs.Holding.{Holding, same}
 use Rattle.store.specs.Meaning.{look_up, once}
+use Rattle.store.proofs.Keys.{same_is, same_itself}
 use Rattle.account.specs.Change.{change, changed}
 use Rattle.account.specs.Exchange.{Said, said}
 use Rattle.account.specs.Readings.{Few, readings_of, readings_at}
 use Rattle.account.specs.Reply.{difference, altered, settlements, answer_to, answer_of, written}
 use Rattle.account.specs.Runs.{states_change, amount_said}
 use Rattle.account.specs.Tests.{ruled}
-use Rattle.account.proofs.Holdings.{same_true, same_self, look_up_put, others_with}
+use Rattle.account.proofs.Holdings.{look_up_put, others_with}
 use Rattle.account.proofs.Said.{unwritten_says, refused_says, closed_says, amounts_say}
 use Rattle.account.proofs.Weights.{settlements_fit, differences_fit}
 
@@ -92,7 +93,7 @@ module _ (b : book.Meaning) (laws : book.Lawful b) (held : List Holding) (o : on
   here (cancel at meter) line below few more = altered_here Cancel refl at (cancel at meter) line below few more
   here (close at) line below few more =
       let h : Holding = record { at = at; closed = true; readings = readings_at at held } in
-      rw (closed_says, look_up_put h held at, same_self at) (nothing_added (settled b (readings_at at held) line))
+      rw (closed_says, look_up_put h held at, same_itself at) (nothing_added (settled b (readings_at at held) line))
   here (account at) line below few more =
       rw (amounts_say Account (settlements b (readings_at at held)) refl (settlements_fit b laws (readings_at at held) few)) (nothing_added (settled b (readings_at at held) line))
 
@@ -105,7 +106,7 @@ module _ (b : book.Meaning) (laws : book.Lawful b) (held : List Holding) (o : on
   served_step : (a : Asked) (at : SiteMonth) (line : ℕ) → line < lines → Few (readings_at at held) → Step (site_of a) at line (Ok a) (said (Ok (answer_line (answer_to b held a))))
   served_step a at line below few more =
       here_or_not (same at (site_of a)) (amount_said (said (Ok (answer_line (answer_to b held a)))) line)
-      (λ yes. let is = same_true at (site_of a) yes in rw is (here a line below (rw is at few) (rw is at more)))
+      (λ yes. let is = same_is at (site_of a) yes in rw is (here a line below (rw is at few) (rw is at more)))
       (λ no. ap (λ l. settled b (readings_of l) line) (elsewhere a at no))
 
   pub step : (line : ℕ) (frame : List ℕ) (buffer rest : Option Fault) (at : SiteMonth) → line < lines → Few (readings_at at held) → Step (site_month_in frame) at line (ruled (or_else buffer rest) (requested frame)) (said (written buffer (answer_of b held (ruled (or_else buffer rest) (requested frame)))))

@@ -2,12 +2,13 @@
 use Rattle.std.proofs.Common.{◌≡◌, ℕ, ◌+◌, ◌^◌, ◌<◌, ◌≤◌, true, leb, List, [], ◌∷◌, map, length, get_or, ℤ, pos, ◌-ℤ◌, Some, sum_by, sym, refl, ap, ◌∙◌, subst, ap₂, arith, lit≤, w32, SFits, to_z, of_z}
 use Rattle.std.specs.List.{range_with_len, list_all, AllByRecursion as All}
 use Rattle.std.proofs.lemmas.Nat.{mul-le}
-use Rattle.std.proofs.ByRecursion.{All-weaker, All-map, All-from_get_or, sum_by_le}
+use Rattle.std.proofs.ByRecursion.{All-map, All-from_get_or, sum_by_le}
 use Rattle.std.proofs.lemmas.Int.{ints, to_z-of_z}
 use Rattle.std.proofs.lemmas.List.FromFn.{get_or-map-range_with_len}
 use Rattle.std.proofs.lemmas.List.Sums.{sum_by-cons}
 use Rattle.std.proofs.lemmas.Bool.{and_parts, cond_both, leb-true}
 use Rattle.std.proofs.lemmas.Bool.Decides.{nat_tests}
+use Rattle.reading.proofs.Each.{each_by_test}
 use Rattle.reading.specs.Limits.{lawful}
 use Rattle.reading.specs.Statement.{lines}
 use Rattle.reading.specs.declared.entry.Entry.{Entry}
@@ -46,13 +47,6 @@ few_in h is =
     let r = and_parts (leb (length h.readings) 16) _ q in
     record { most = leb-true (length h.readings) 16 r.0; each = (and_parts (list_all lawful_reading h.readings) _ r.1).0 }
 
--- Each of some lawful readings is within its limits.
-each_within : (es : List Entry) → list_all lawful_reading es ≡ true → All (λ e. lawful e ≡ true) es
-each_within [] is = tt
-each_within (e ∷ es) is =
-    let p = and_parts (lawful_reading e) (list_all lawful_reading es) is in
-    ((and_parts (lawful e) _ p.0).0, each_within es p.1)
-
 -- So many stand in each site month of lawful records.
 pub few_at : (at : SiteMonth) (held : List Holding) → list_all lawful_holding held ≡ true → Few (readings_at at held)
 few_at at [] is = record { most = lit≤ tt; each = refl }
@@ -76,7 +70,7 @@ by_bits n x most is = ap (λ z. to_z w32 (of_z w32 z)) is ∙ to_z-of_z w32 (pos
 
 module _ (b : book.Meaning) (laws : book.Lawful b) where
   each_light : (line : ℕ) (es : List Entry) → list_all lawful_reading es ≡ true → All (λ e. b.weight e line ≤ 10 ^ 15) es
-  each_light line es is = All-weaker (λ e. lawful e ≡ true) (λ e. b.weight e line ≤ 10 ^ 15) (λ e within. laws.light e line within) es (each_within es is)
+  each_light line es is = each_by_test (λ e. b.weight e line ≤ 10 ^ 15) lawful_reading (λ e h. laws.light e line (and_parts (lawful e) _ h).0) es is
 
   settled_bound : (es : List Entry) → Few es → (line : ℕ) → settled b es line ≤ 2000000000
   settled_bound es few line =

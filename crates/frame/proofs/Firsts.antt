@@ -45,10 +45,6 @@ module _ (served : ℕ → Option ℕ) (fields : List ℕ → List (Option Fault
         append_passes (line_tests line) (kind_test served (bytes_of line) ∷ payload_test served (bytes_of line) ∷ fields (bytes_of line)) outcome fine
         (h ∙ ap (λ f. first (kind_test served f ∷ payload_test served f ∷ fields f)) is)
 
-    -- The kind is not served.
-    pub kind_stops : (fault : Fault) → Some fault ≡ kind_test served frame → Some fault ≡ first (call_tests served fields line)
-    kind_stops fault fits = frame_tested (Some fault) (stops (kind_test served frame) (first (payload_test served frame ∷ fields frame)) fault fits)
-
     module _ (n : ℕ) (length : served (kind_of frame) ≡ Some n) where
       kind_fine : None ≡ kind_test served frame
       kind_fine = rw length
@@ -56,7 +52,7 @@ module _ (served : ℕ → Option ℕ) (fields : List ℕ → List (Option Fault
       payload_is : when (not (carries n frame)) PayloadLength ≡ payload_test served frame
       payload_is = rw length
 
-      -- It is, and carries another payload.
+      -- The kind is served, and carries another payload.
       pub payload_stops : (fault : Fault) → Some fault ≡ when (not (carries n frame)) PayloadLength → Some fault ≡ first (call_tests served fields line)
       payload_stops fault fits =
           frame_tested (Some fault)

@@ -6,6 +6,7 @@ use Rattle.std.proofs.ByRecursion.{All-append, All-drop}
 use Rattle.std.proofs.lemmas.List.{append-nil, length-drop, take_at, drop_at, drop_all, take-append-drop}
 use Rattle.std.proofs.lemmas.Bool.{and_parts, and_from, or_cases, eq-eqb}
 use Rattle.std.proofs.lemmas.Bool.Decides.{nat_tests}
+use Rattle.reading.proofs.Each.{each_by_test}
 use Rattle.reading.specs.declared.entry.Entry.{Entry}
 use Rattle.record.specs.Holding.{lawful_reading}
 use Rattle.record.specs.Rows.{is_blank, lawful_row, vacant, is_vacant, tidy}
@@ -26,15 +27,11 @@ record Fitting (row : Row) : Type 0 where
   sixteen : length row.entries ≡ 16
   narrow : All Narrow row.entries
 
-all_passed : {X : Type 0} (p : X → Bool) (P : X → Type 0) → ((x : X) → p x ≡ true → P x) → (xs : List X) → list_all p xs ≡ true → All P xs
-all_passed p P each [] h = tt
-all_passed p P each (x ∷ xs) h = let parts = and_parts (p x) (list_all p xs) h in (each x parts.0, all_passed p P each xs parts.1)
-
 fitting_lawful : (row : Row) → lawful_row row ≡ true → Fitting row
 fitting_lawful row h =
     let readings : list_all lawful_reading (take row.count row.entries) ≡ true = search rules in
     let blanks : list_all is_blank (drop row.count row.entries) ≡ true = search rules in
-    let each = All-append Narrow (take row.count row.entries) (drop row.count row.entries) (all_passed lawful_reading Narrow narrow_lawful _ readings) (all_passed is_blank Narrow narrow_blank _ blanks) in
+    let each = All-append Narrow (take row.count row.entries) (drop row.count row.entries) (each_by_test Narrow lawful_reading narrow_lawful _ readings) (each_by_test Narrow is_blank narrow_blank _ blanks) in
     record {
       site = search rules;
       month = search rules;
@@ -44,7 +41,7 @@ fitting_lawful row h =
 
 fitting : (row : Row) → tidy row ≡ true → Fitting row
 fitting row h =
-    let none = all_passed is_blank Narrow narrow_blank vacant.entries refl in
+    let none = each_by_test Narrow is_blank narrow_blank vacant.entries refl in
     let empty : Fitting vacant = record { site = lit< tt; month = lit< tt; sixteen = refl; narrow = none } in
     elim (or_cases (is_vacant row) (lawful_row row) h) [ inl v ↦ subst Fitting (sym (vacant_is row v)) empty | inr l ↦ fitting_lawful row l ]
 

@@ -4,6 +4,7 @@ use Rattle.std.specs.List.{list_all}
 use Rattle.std.proofs.lemmas.Bool.{and_parts, not-true, eqb-true}
 use Rattle.std.proofs.lemmas.Bool.Decides.{nat_tests}
 use Rattle.reading.specs.declared.entry.Entry.{Entry}
+use Rattle.record.proofs.Pinned.{blanks_alike}
 use Rattle.record.specs.Meters.{blank}
 use Rattle.record.specs.Rows.{is_blank, vacant, is_vacant}
 use Rattle.record.specs.States.{used}
@@ -12,15 +13,6 @@ use Rattle.record.specs.declared.row.State.{State}
 use Rattle.record.specs.declared.row.State.TheVariants.{Empty}
 use Rattle.slot.specs.Layout.{slot_bytes}
 use Rattle.slot.specs.Reading.{row_in}
-
-blank_is : (e : Entry) → is_blank e ≡ true → e ≡ blank
-blank_is e h = grind (arith, nat_tests)
-
-blanks_are : (es : List Entry) → list_all is_blank es ≡ true → es ≡ replicate (length es) blank
-blanks_are [] h = refl
-blanks_are (e ∷ es) h =
-    let parts = and_parts (is_blank e) (list_all is_blank es) h in
-    ap₂ (λ f fs. f ∷ fs) (blank_is e parts.0) (blanks_are es parts.1)
 
 unused : (state : State) → used state ≡ false → state ≡ Empty
 unused state h = grind arith
@@ -42,7 +34,7 @@ vacant_is row h =
     let state = unused row.state (not-true (used row.state) c.0) in
     let none = eqb-true row.count 0 d.0 in
     let blanks = ap (λ n. list_all is_blank (drop n row.entries)) (sym none) ∙ f.1 in
-    let entries = blanks_are row.entries blanks ∙ ap (λ n. replicate n blank) (eqb-true (length row.entries) 16 f.0) in
+    let entries = blanks_alike row.entries (replicate 16 blank) (eqb-true (length row.entries) 16 f.0) blanks refl in
     vacant_made row.at.site row.at.month row.count row.state row.entries site month state none entries
 
 abbrev pub is_zero : ℕ → Bool

@@ -8,6 +8,7 @@ use Rattle.slot.specs.Reading.{row_in, lawful_slot}
 use Rattle.store.specs.Meaning.{Lawful, once}
 use Rattle.store.specs.Table.{held_in, lawful_table, table_meaning}
 use Rattle.store.proofs.Stored.{table_lawful}
+use Rattle.store.proofs.Tables.{pass_set}
 use Rattle.slots.specs.Cuts.{slot_count, slots_of, table_of, lawful_image, put_slot}
 use Rattle.slots.proofs.Cutting.{slots_long, slot_is, table_long, put_long, slots_of_put, table_put}
 
@@ -68,13 +69,6 @@ slot_fit bytes i h within =
     ap lawful_slot (sym (slot_is (slot_count bytes) bytes i within))
     ∙ AllPass-from_list_all lawful_slot (slots_of bytes) (rules bytes h).each i [] (let n = slots_long (slot_count bytes) bytes in omega arith)
 
-slots_set : (slots : List (List ℕ)) (i : ℕ) (new : List ℕ) → lawful_slot new ≡ true → list_all lawful_slot slots ≡ true → list_all lawful_slot (set slots i new) ≡ true
-slots_set [] i new h k = refl
-slots_set (slot ∷ slots) zero new h k = and_from (lawful_slot new) (list_all lawful_slot slots) h (and_parts (lawful_slot slot) (list_all lawful_slot slots) k).1
-slots_set (slot ∷ slots) (suc i) new h k =
-    let q = and_parts (lawful_slot slot) (list_all lawful_slot slots) k in
-    and_from (lawful_slot slot) (list_all lawful_slot (set slots i new)) q.0 (slots_set slots i new h q.1)
-
 -- An image stays lawful where a lawful slot is written and the table stays lawful.
 pub put_lawful : (bytes : List ℕ) (i : ℕ) (new : List ℕ) → lawful_image bytes ≡ true → i < slot_count bytes → lawful_slot new ≡ true → length new ≡ 424 → lawful_table (set (table_of bytes) i (row_in new)) ≡ true → lawful_image (put_slot i new bytes) ≡ true
 put_lawful bytes i new h within fit long table =
@@ -86,6 +80,6 @@ put_lawful bytes i new h within fit long table =
       whole = ap (λ k. k % 424) n ∙ r.whole;
       least = subst (λ k. 1 ≤ k / 424) (sym n) r.least;
       most = subst (λ k. k / 424 ≤ 1024) (sym n) r.most;
-      each = ap (list_all lawful_slot) (slots_of_put bytes i new within long) ∙ slots_set (slots_of bytes) i new fit r.each;
+      each = ap (list_all lawful_slot) (slots_of_put bytes i new within long) ∙ pass_set lawful_slot (slots_of bytes) i new fit r.each;
       apart = ap (λ rows. once (held_in rows)) (table_put bytes i new within long) ∙ t.1;
     })

@@ -2,6 +2,8 @@
 use Rattle.std.proofs.Common.{◌≡◌, ℕ, zero, suc, ◌+◌, ◌<◌, ◌≤◌, Bool, true, false, cond, not, ◌&&◌, eqb, List, [], ◌∷◌, length, get_or, set, replicate, is_some, Some, None, Option, sym, refl, ap, ◌∙◌, ⊎_elim, arith}
 use Rattle.std.specs.List.{list_all}
 use Rattle.std.proofs.lemmas.Bool.{and_parts, and_from, both_ways, cond-true, cond-false, cond_both, not_from_false, not-true, or_cases}
+use Rattle.std.proofs.lemmas.List.Elements.{All-set}
+use Rattle.std.proofs.lemmas.List.Sums.{AllPass-from_list_all, list_all-from_AllPass}
 use Rattle.reading.specs.declared.site_month.SiteMonth.{SiteMonth}
 use Rattle.record.proofs.Editing.{swap}
 use Rattle.record.specs.Holding.{Holding, same, lawful_holding}
@@ -226,12 +228,8 @@ each_lawful (row ∷ rows) h =
     (λ is. and_from (lawful_holding (holding row)) (list_all lawful_holding (held_in rows)) (row_holding row (used_lawful row p.0 is)) (each_lawful rows p.1))
     (λ _. each_lawful rows p.1)
 
-pub pass_set : (p : Row → Bool) (rows : List Row) (i : ℕ) (new : Row) → p new ≡ true → list_all p rows ≡ true → list_all p (set rows i new) ≡ true
-pass_set p [] i new h k = refl
-pass_set p (row ∷ rows) zero new h k = and_from (p new) (list_all p rows) h (and_parts (p row) (list_all p rows) k).1
-pass_set p (row ∷ rows) (suc i) new h k =
-    let q = and_parts (p row) (list_all p rows) k in
-    and_from (p row) (list_all p (set rows i new)) q.0 (pass_set p rows i new h q.1)
+pub pass_set : {X : Type 0} (p : X → Bool) (xs : List X) (i : ℕ) (new : X) → p new ≡ true → list_all p xs ≡ true → list_all p (set xs i new) ≡ true
+pass_set p xs i new h k = list_all-from_AllPass p (set xs i new) (All-set (λ x. p x ≡ true) xs i new h (AllPass-from_list_all p xs k))
 
 -- A table of vacant rows is lawful.
 pub vacant_lawful : (n : ℕ) → lawful_table (replicate n vacant) ≡ true

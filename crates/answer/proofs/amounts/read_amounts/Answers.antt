@@ -1,5 +1,5 @@
 use Rattle.std.proofs.Common.{[]}
-use Rattle.std.proofs.lemmas.Result.{err_from_is_err_and}
+use Rattle.reading.proofs.Handed.{handed_on}
 use Rattle.frame.specs.Held.{held}
 use Rattle.frame.proofs.Firsts.{line_stops, payload_stops}
 use Rattle.answer.specs.Kinds.{amounts_length}
@@ -8,16 +8,14 @@ use Rattle.answer.proofs.amounts.read_amounts.Goals as goal
 
 pub returns-in_err-frame-clause-refused : goal.returns-in_err-frame-clause-refused
 returns-in_err-frame-clause-refused c =
-    let p = err_from_is_err_and c.from_residual.result c.from_residual.ensures.1 in
-    rw (p.1, p.2) (line_stops amounts_length (λ _. []) c.args.line.now _ c.in_err-frame.ensures.refused)
+    rw (handed_on c.from_residual.ensures.1) (line_stops amounts_length (λ _. []) c.args.line.now _ c.in_err-frame.ensures.refused)
 
 pub returns-in_err-expect-clause-refused : goal.returns-in_err-expect-clause-refused
 returns-in_err-expect-clause-refused c =
-    let p = err_from_is_err_and c.from_residual-in_err-expect.result c.from_residual-in_err-expect.ensures.1 in
     let read = c.in_ok-frame.ensures in
     let frame = held c.in_ok-frame.frame in
     let served = length_of c.kind.result _ frame c.kind.ensures c.in_ok-kind.ensures.value in
-    rw (p.1, p.2) (payload_stops amounts_length (λ _. []) c.args.line.now frame read.value read.refused 52 served _ c.in_err-expect.ensures.refused)
+    rw (handed_on c.from_residual-in_err-expect.ensures.1) (payload_stops amounts_length (λ _. []) c.args.line.now frame read.value read.refused 52 served _ c.in_err-expect.ensures.refused)
 
 pub returns-clause-spelling : goal.returns-clause-spelling
 returns-clause-spelling c =

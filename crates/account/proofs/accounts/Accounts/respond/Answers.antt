@@ -1,12 +1,10 @@
-use Rattle.std.proofs.lemmas.Result.{err_from_is_err_and}
+use Rattle.reading.proofs.Handed.{handed_on}
 use Rattle.request.specs.Asked.{post, correct, cancel, close, account}
 use Rattle.account.proofs.Verdicts.{month_within, line_refused, line_decides}
 use Rattle.account.proofs.accounts.Accounts.respond.Goals as goal
 
 pub returns-in_err-at-clause-responds : goal.returns-in_err-at-clause-responds
-returns-in_err-at-clause-responds g c =
-    let p = err_from_is_err_and c.from_residual.result c.from_residual.ensures.1 in
-    rw (p.1, p.2) (line_refused _ _ c.args.line.now _ c.in_err-at.ensures.refused)
+returns-in_err-at-clause-responds g c = rw (handed_on c.from_residual.ensures.1) (line_refused _ _ c.args.line.now _ c.in_err-at.ensures.refused)
 
 pub post-requires : goal.post-requires
 post-requires g c = month_within c.args.line.now (post c.in-Post.at c.in-Post.reading.entry) c.in_ok-at.ensures.refused (rw c.in-Post.is at c.in_ok-at.ensures.value)

@@ -1,18 +1,16 @@
 use Rattle.std.proofs.Common.{◌/◌, ◌<◌, length, arith}
-use Rattle.std.proofs.lemmas.Result.{err_from_is_err_and}
+use Rattle.reading.proofs.Handed.{handed_on}
 use Rattle.frame.proofs.Decoding.{high_stops, low_stops, both_pass, byte_more}
 use Rattle.frame.proofs.frame.read.decode.Goals as goal
 
 pub returns-in_err-high-clause-refused : goal.returns-in_err-high-clause-refused
 returns-in_err-high-clause-refused c =
-    let p = err_from_is_err_and c.from_residual.result c.from_residual.ensures.1 in
-    rw (p.1, p.2)
+    rw (handed_on c.from_residual.ensures.1)
     (high_stops c.args.line.now c.as_chunks.result.0.now c.loop-i.i c.as_chunks.ensures.front (omega arith) c.loop-i.invariant.0 _ c.in_err-high.ensures.refused)
 
 pub returns-in_err-low-clause-refused : goal.returns-in_err-low-clause-refused
 returns-in_err-low-clause-refused c =
-    let p = err_from_is_err_and c.from_residual-in_err-low.result c.from_residual-in_err-low.ensures.1 in
-    rw (p.1, p.2)
+    rw (handed_on c.from_residual-in_err-low.ensures.1)
     (low_stops c.args.line.now c.as_chunks.result.0.now c.loop-i.i c.as_chunks.ensures.front (omega arith) c.loop-i.invariant.0 c.in_ok-high.high _ c.in_ok-high.ensures.value c.in_err-low.ensures.refused)
 
 pub loop-i-preserved : goal.loop-i-preserved

@@ -1,5 +1,5 @@
 use Rattle.std.proofs.Common.{ap, ◌∙◌}
-use Rattle.std.proofs.lemmas.Result.{err_from_is_err_and}
+use Rattle.reading.proofs.Handed.{handed_on}
 use Rattle.frame.specs.Held.{held}
 use Rattle.frame.proofs.Firsts.{line_stops, payload_stops, fields_decide}
 use Rattle.oregon_card.specs.Layout.{card_length, card_field_tests, values_in}
@@ -9,15 +9,13 @@ use Rattle.oregon_card.proofs.card.Card.read.Goals as goal
 
 pub returns-in_err-frame-clause-refused : goal.returns-in_err-frame-clause-refused
 returns-in_err-frame-clause-refused c =
-    let p = err_from_is_err_and c.from_residual.result c.from_residual.ensures.1 in
-    rw (p.1, p.2) (line_stops card_length card_field_tests c.args.line.now _ c.in_err-frame.ensures.refused)
+    rw (handed_on c.from_residual.ensures.1) (line_stops card_length card_field_tests c.args.line.now _ c.in_err-frame.ensures.refused)
 
 pub returns-in_err-expect-clause-refused : goal.returns-in_err-expect-clause-refused
 returns-in_err-expect-clause-refused c =
-    let p = err_from_is_err_and c.from_residual-in_err-expect.result c.from_residual-in_err-expect.ensures.1 in
     let f = held c.in_ok-frame.frame in
     let read = c.in_ok-frame.ensures in
-    rw (p.1, p.2)
+    rw (handed_on c.from_residual-in_err-expect.ensures.1)
     (payload_stops card_length card_field_tests c.args.line.now f read.value read.refused 32
     (card_named c.kind.result f c.kind.ensures c.if-kind-ne-KIND.false) _ c.in_err-expect.ensures.refused)
 

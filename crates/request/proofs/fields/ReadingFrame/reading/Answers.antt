@@ -1,6 +1,6 @@
 use Rattle.std.proofs.Common.{◌∙◌}
-use Rattle.std.proofs.lemmas.Result.{err_from_is_err_and}
 use Rattle.std.proofs.lemmas.Bool.{both_ways}
+use Rattle.reading.proofs.Handed.{handed_on}
 use Rattle.reading.specs.Limits.{lawful}
 use Rattle.frame.specs.Held.{held}
 use Rattle.frame.proofs.Firsts.{stops}
@@ -12,8 +12,7 @@ use Rattle.request.proofs.fields.ReadingFrame.reading.Goals as goal
 pub returns-in_err-check_limits : goal.returns-in_err-check_limits
 returns-in_err-check_limits c =
     let frame = held c.args.self.now.frame.now in
-    let p = err_from_is_err_and c.from_residual.result c.from_residual.ensures.1 in
-    rw (p.1, p.2)
+    rw (handed_on c.from_residual.ensures.1)
     record { refused = stops (limit_test reading_limits frame) (excess_test frame) _ c.in_err-check_limits.ensures; value = tt }
 
 pub entry-entry-requires : goal.entry-entry-requires

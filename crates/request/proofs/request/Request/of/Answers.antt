@@ -1,5 +1,5 @@
 use Rattle.std.proofs.Common.{refl, ap₂}
-use Rattle.std.proofs.lemmas.Result.{err_from_is_err_and}
+use Rattle.reading.proofs.Handed.{handed_on}
 use Rattle.frame.specs.Held.{held}
 use Rattle.request.specs.declared.kind.RequestKind.TheVariants.{Post, Correct}
 use Rattle.request.specs.Asked.{post, correct}
@@ -8,13 +8,11 @@ use Rattle.request.proofs.request.Request.of.Goals as goal
 
 pub returns-in_err-reading-in-Post-clause-refused : goal.returns-in_err-reading-in-Post-clause-refused
 returns-in_err-reading-in-Post-clause-refused c =
-    let p = err_from_is_err_and c.from_residual-in_err-reading-in-Post.result c.from_residual-in_err-reading-in-Post.ensures.1 in
-    rw (p.1, p.2) (reading_tested c.args.kind Post (held c.args.frame.now) _ c.in-Post.is refl c.in_err-reading-in-Post.ensures.refused)
+    rw (handed_on c.from_residual-in_err-reading-in-Post.ensures.1) (reading_tested c.args.kind Post (held c.args.frame.now) _ c.in-Post.is refl c.in_err-reading-in-Post.ensures.refused)
 
 pub returns-in_err-reading-in-Correct-clause-refused : goal.returns-in_err-reading-in-Correct-clause-refused
 returns-in_err-reading-in-Correct-clause-refused c =
-    let p = err_from_is_err_and c.from_residual-in_err-reading-in-Correct.result c.from_residual-in_err-reading-in-Correct.ensures.1 in
-    rw (p.1, p.2) (reading_tested c.args.kind Correct (held c.args.frame.now) _ c.in-Correct.is refl c.in_err-reading-in-Correct.ensures.refused)
+    rw (handed_on c.from_residual-in_err-reading-in-Correct.ensures.1) (reading_tested c.args.kind Correct (held c.args.frame.now) _ c.in-Correct.is refl c.in_err-reading-in-Correct.ensures.refused)
 
 pub returns-in_ok-reading-in-Post-clause-refused : goal.returns-in_ok-reading-in-Post-clause-refused
 returns-in_ok-reading-in-Post-clause-refused c = reading_tested c.args.kind Post (held c.args.frame.now) _ c.in-Post.is refl c.in_ok-reading-in-Post.ensures.refused

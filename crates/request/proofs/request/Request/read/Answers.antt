@@ -1,5 +1,6 @@
 use Rattle.std.proofs.Common.{◌≡◌, not, Some, ap, ◌∙◌, subst}
-use Rattle.std.proofs.lemmas.Result.{err_from_is_err_and, IfOk-weaker}
+use Rattle.std.proofs.lemmas.Result.{IfOk-weaker}
+use Rattle.reading.proofs.Handed.{handed_on}
 use Rattle.reading.specs.declared.fault.Fault.TheVariants.{PayloadLength}
 use Rattle.frame.specs.Held.{held}
 use Rattle.frame.specs.Line.{bytes_of}
@@ -14,8 +15,7 @@ use Rattle.request.proofs.request.Request.read.Goals as goal
 
 pub returns-in_err-frame : goal.returns-in_err-frame
 returns-in_err-frame c =
-    let p = err_from_is_err_and c.from_residual.result c.from_residual.ensures.1 in
-    rw (p.1, p.2)
+    rw (handed_on c.from_residual.ensures.1)
     record {
       refused = line_stops request_length request_field_tests c.args.line.now _ c.in_err-frame.ensures.refused;
       value = tt;
@@ -23,11 +23,10 @@ returns-in_err-frame c =
 
 pub returns-in_err-expect : goal.returns-in_err-expect
 returns-in_err-expect c =
-    let p = err_from_is_err_and c.from_residual-in_err-expect.result c.from_residual-in_err-expect.ensures.1 in
     let f = held c.in_ok-frame.frame in
     let read = c.in_ok-frame.ensures in
     let kind = c.in_ok-kind.kind in
-    rw (p.1, p.2)
+    rw (handed_on c.from_residual-in_err-expect.ensures.1)
     record {
       refused =
           payload_stops request_length request_field_tests c.args.line.now f read.value read.refused (payload_length kind)
