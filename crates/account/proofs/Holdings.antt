@@ -1,6 +1,6 @@
 -- Records put and taken out: look-up, count, and that no site month stands twice.
-use Rattle.std.proofs.Common.{◌≡◌, ◌+◌, ◌≤◌, true, false, cond, not, eqb, List, [], ◌∷◌, length, Some, None, refl, ap, ap₂, arith}
-use Rattle.std.proofs.lemmas.Bool.{and_parts, eqb-true}
+use Rattle.std.proofs.Common.{◌≡◌, ◌+◌, ◌≤◌, true, false, cond, not, List, [], ◌∷◌, length, Some, None, refl, ap, arith}
+use Rattle.std.proofs.lemmas.Bool.{and_parts}
 use Rattle.std.proofs.lemmas.Bool.Decides.{nat_tests}
 use Rattle.reading.specs.declared.entry.Entry.{Entry}
 use Rattle.reading.specs.declared.site_month.SiteMonth.{SiteMonth}

@@ -2,7 +2,6 @@
 use Rattle.std.proofs.Common.{◌≡◌, ℕ, Bool, true, false, not, eqb, leb, List, [], ◌∷◌, length, drop, replicate, sym, refl, ap, ◌∙◌, ap₂, arith}
 use Rattle.std.specs.List.{list_all}
 use Rattle.std.proofs.lemmas.Bool.{and_parts, not-true, eqb-true}
-use Rattle.std.proofs.lemmas.Bool.Decides.{nat_tests}
 use Rattle.reading.specs.declared.entry.Entry.{Entry}
 use Rattle.record.proofs.Pinned.{blanks_alike}
 use Rattle.record.specs.Meters.{blank}
