@@ -1,4 +1,4 @@
-// Rows and images taken into use.
+// Rows and images taken into use, each by a check and an open of its own, which no trait has.
 use image_store::Image;
 use record::Row;
 use row_store::Rows;

@@ -30,6 +30,7 @@ pub(crate) fn entry_of(meter: u16) -> Entry {
     }
 }
 
+// Beside `record_of`: one for both would not name what it makes.
 pub(crate) fn reading_of(rt: &impl Abort, entry: Entry) -> Reading {
     Reading::try_from(entry).expect(rt, "no reading")
 }
