@@ -1,8 +1,8 @@
 -- The two greatest of a list, one demand more at its end, and what bounds a load size.
-use Rattle.std.proofs.Common.{◌≡◌, ℕ, ◌+◌, ◌/◌, ◌<◌, ◌≤◌, min, max, true, false, eqb, List, [], ◌∷◌, ◌++◌, length, get_or, take, sym, ap, ◌∙◌, arith}
+use Rattle.std.proofs.Common.{◌≡◌, ℕ, ◌+◌, ◌/◌, ◌<◌, ◌≤◌, min, max, eqb, List, [], ◌∷◌, ◌++◌, length, get_or, take, ap, ◌∙◌, arith}
 use Rattle.std.specs.List.{AllByRecursion as All}
 use Rattle.std.proofs.lemmas.List.{take_more}
-use Rattle.std.proofs.lemmas.Bool.{cond_both, eq-eqb, ne_eqb}
+use Rattle.std.proofs.lemmas.Bool.{cond_both}
 use Rattle.reading.specs.Demand.{greatest, second_greatest, load_of}
 
 pub greatest_push : (ds : List ℕ) (d : ℕ) → greatest (ds ++ d ∷ []) ≡ max (greatest ds) d
@@ -38,10 +38,3 @@ load_bound m ds h =
     let next = second_least ds in
     cond_both (eqb (second_greatest ds) 0) (greatest ds) ((greatest ds + second_greatest ds) / 2) (λ x. x ≤ m)
     (λ e. omega arith) (λ e. omega arith)
-
--- The load size by the two greatest demands.
-pub load_alone : (ds : List ℕ) (a b : ℕ) → a ≡ greatest ds → b ≡ second_greatest ds → b ≡ 0 → a ≡ load_of ds
-load_alone ds a b first second none = let e : eqb (second_greatest ds) 0 ≡ true = eq-eqb (second_greatest ds) 0 (sym second ∙ none) in rw (e, first)
-
-pub load_average : (ds : List ℕ) (a b : ℕ) → a ≡ greatest ds → b ≡ second_greatest ds → (b ≡ 0 → ⊥) → (a + b) / 2 ≡ load_of ds
-load_average ds a b first second some = let e : eqb (second_greatest ds) 0 ≡ false = ne_eqb (second_greatest ds) 0 (λ z. some (second ∙ z)) in rw (e, first, second)

@@ -13,6 +13,7 @@ pub fn nearest_kw(tenths: u32) -> u32
 }
 
 // The load size in kW, from this month's demand in kW and those of earlier months.
+#[tactic(auto, using(crate::proofs::Greatest::greatest_more, crate::proofs::Greatest::second_more))]
 pub fn load_size(demand: u16, earlier: &[u16]) -> u16
     ensures { result ≡ load_of (demand ∷ earlier.now) }
 {
