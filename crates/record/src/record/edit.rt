@@ -66,6 +66,7 @@ impl Record {
     }
 
     // The record with a meter's reading taken out, or nothing where that was its last.
+    #[tactic(auto, using(crate::proofs::Editing::takes_taken, crate::proofs::Edited::without_is, crate::proofs::Edited::without_lawful, crate::proofs::Laws::laws))]
     pub fn without(&self, meter: u16) -> Result<Option<Record>, Fault>
         ensures refused { result_err result ≡ meter_test meter (holding self.now.row).readings }
         ensures value { IfOk result (λ left. MatchOption left (taken_out meter (holding self.now.row).readings ≡ []) (λ x. holding x.row ≡ with_readings (taken_out meter (holding self.now.row).readings) (holding self.now.row))) }
