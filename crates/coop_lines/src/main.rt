@@ -8,7 +8,6 @@ use image_store::Image;
 use line_reader::{Answered, BUFFER, LineReader};
 use slot::SLOT;
 use slots::check;
-use std::io::BufReader;
 use std::process::ExitCode;
 use std::{fs, io};
 use store::Store;
@@ -60,7 +59,7 @@ fn serve_image(rt: &HostRuntime, path: &str, mut bytes: Vec<u8>) -> io::Result<E
 
 // Answers lines. The image is safe in its file before an accepted line is answered.
 fn run(rt: &HostRuntime, path: &str, image: &mut Image<'_>) -> io::Result<()> {
-    let mut reader = LineReader::new(BufReader::new(rt.alloc(), rt.stdin())?);
+    let mut reader = LineReader::new();
     reader.answer(rt, |line, buffer| {
         let answered = answer_request(image, line, buffer);
         // Accepted, unless the answer's kind is a refusal's: the serving call gives the length alone, and to read the answer

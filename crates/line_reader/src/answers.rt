@@ -4,7 +4,7 @@ ghost use Rattle.std.specs.Prelude.{◌≡◌, ◌<◌, ◌≤◌, length as len
 use crate::reader::LineReader;
 use frame::LINE;
 use std::io;
-use std::io::{BufRead, Write};
+use std::io::Write;
 
 // An answer line and its line feed.
 pub const BUFFER: usize = LINE + 1;
@@ -17,7 +17,7 @@ pub struct Answered<T> {
     ghost fits: { length ≤ 128 },
 }
 
-impl<R: BufRead> LineReader<R> {
+impl LineReader {
     // Answers each line at once, until something is found or the input ends.
     pub fn answer<T: Drop, F>(&mut self, rt: &HostRuntime, mut step: F) -> io::Result<Option<T>>
     where
@@ -25,7 +25,7 @@ impl<R: BufRead> LineReader<R> {
         requires { F.IsAlwaysCallable step }
     {
         for _ in 0..u64::MAX {
-            if !self.advance()? {
+            if !self.advance(rt)? {
                 break;
             }
             let mut buffer = [0; BUFFER];

@@ -1,4 +1,4 @@
-// Lines from a reader, each in bounded memory, and answers to standard output.
+// Lines from standard input, each in bounded memory, and answers to standard output.
 #![tactic(auto)]
 
 mod answers;

@@ -1,48 +1,63 @@
-// Lines from a reader.
-ghost use Rattle.std.specs.Prelude.{◌≡◌, ℕ, List, [], take};
+// Lines from standard input.
+ghost use Rattle.std.specs.Prelude.{◌≡◌, ℕ, ◌≤◌, List, [], take};
 ghost use Rattle.line_buffer.specs.Received.{received, StandsFor};
 
 use line_buffer::LineBuffer;
 use std::io;
-use std::io::BufRead;
+use std::io::Read;
 
-// What is read, and the line so far.
+const CHUNK: usize = 4096;
+
+// What was read and not yet taken, and the line so far. The chunk is kept by hand in fixed memory: the library's buffered reader
+// takes heap, which no program that serves rows needs.
 #[derive(Drop)]
-pub struct LineReader<R> {
-    input: R,
+pub struct LineReader {
+    chunk: [u8; CHUNK],
+    next: usize,
+    count: usize,
     line: LineBuffer,
+    ghost taken: { next ≤ count },
+    ghost fits: { count ≤ 4096 },
 }
 
-impl<R: BufRead> LineReader<R> {
-    // No line is read yet.
-    pub fn new(input: R) -> LineReader<R>
+impl LineReader {
+    // Nothing is read yet.
+    pub fn new() -> LineReader
         ensures { received result.line ≡ [] }
     {
         LineReader {
-            input,
+            chunk: [0; CHUNK],
+            next: 0,
+            count: 0,
             line: LineBuffer::new(),
         }
     }
 
     // Reads the next line: false where the input has ended. A last line without a line feed is a line too. The line itself
     // is asked for by `line`: an Option of it would be no plainer, since the reader stays lent as long as it is used.
-    pub fn advance(&mut self) -> io::Result<bool> {
-        self.line.clear();
+    pub fn advance(&mut self, rt: &HostRuntime) -> io::Result<bool> {
+        let mut line = LineBuffer::new();
+        let found = self.take_line(rt, &mut line)?;
+        self.line = line;
+        Ok(found)
+    }
+
+    // Takes what is left of a line.
+    fn take_line(&mut self, rt: &HostRuntime, line: &mut LineBuffer) -> io::Result<bool> {
         for _ in 0..u64::MAX {
-            let bytes = self.input.fill_buf()?;
-            if bytes.is_empty() {
-                return Ok(!self.line.is_empty());
+            if self.next == self.count && self.fill(rt)? == 0 {
+                return Ok(!line.is_empty());
             }
-            match bytes.iter().position(|b| *b == b'\n') {
+            let rest = &self.chunk[self.next..self.count];
+            match rest.iter().position(|b| *b == b'\n') {
                 Some(end) => {
-                    self.line.extend(&bytes[..end]);
-                    self.input.consume(end + 1);
+                    line.extend(&rest[..end]);
+                    self.next += end + 1;
                     return Ok(true);
                 }
                 None => {
-                    self.line.extend(bytes);
-                    let count = bytes.len();
-                    self.input.consume(count);
+                    line.extend(rest);
+                    self.next = self.count;
                 }
             }
         }
@@ -55,5 +70,15 @@ impl<R: BufRead> LineReader<R> {
         ensures stands { (line : List ℕ) → received self.now.line ≡ take 129 line → StandsFor line result.now }
     {
         self.line.line()
+    }
+
+    // Reads more, and says how much.
+    fn fill(&mut self, rt: &HostRuntime) -> io::Result<usize> {
+        let mut chunk = [0; CHUNK];
+        let count = rt.stdin().read(&mut chunk)?;
+        self.chunk = chunk;
+        self.next = 0;
+        self.count = count;
+        Ok(count)
     }
 }

@@ -4,11 +4,10 @@
 use line_reader::{Answered, BUFFER, LineReader};
 use oregon_card::{Card, take_card};
 use std::io;
-use std::io::BufReader;
 
 // Takes cards until one is accepted or the input ends.
 fn main(rt: HostRuntime) -> io::Result<()> {
-    let mut reader = LineReader::new(BufReader::new(rt.alloc(), rt.stdin())?);
+    let mut reader = LineReader::new();
     match reader.answer(&rt, |line, buffer| Ok(answer_card(line, buffer)))? {
         Some(_) => eprintln!(rt;
             "oregon-lines: the card is accepted; serving requests is not built yet"

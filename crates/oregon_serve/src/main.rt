@@ -8,7 +8,6 @@ use oregon_card::{Card, take_card};
 use record::VACANT;
 use row_store::Rows;
 use std::io;
-use std::io::BufReader;
 
 // How many site months the program holds.
 const ROWS: usize = 64;
@@ -17,7 +16,7 @@ const ROWS: usize = 64;
 fn main(rt: HostRuntime) -> io::Result<()> {
     let mut rows = [VACANT; ROWS];
     let mut store = Rows::open(&mut rows);
-    let mut reader = LineReader::new(BufReader::new(rt.alloc(), rt.stdin())?);
+    let mut reader = LineReader::new();
     let Some(card) = reader.answer(&rt, |line, buffer| Ok(answer_card(line, buffer)))? else {
         return Ok(());
     };
