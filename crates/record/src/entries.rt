@@ -46,6 +46,7 @@ pub(crate) fn search(entries: &[Entry], meter: u16) -> Result<usize, usize>
 }
 
 // Puts an entry at a place and moves those from there on up by one. The last falls out.
+#[tactic(auto, using(crate::proofs::Turning::inserted))]
 pub(crate) fn insert(entries: &mut [Entry], place: usize, entry: Entry)
     requires { place < length entries.old }
     ensures { entries.new ≡ insert (take (length entries.old - 1) entries.old) place entry }
@@ -55,6 +56,7 @@ pub(crate) fn insert(entries: &mut [Entry], place: usize, entry: Entry)
 }
 
 // Takes the entry at a place out and moves those behind it down by one. The last is zero.
+#[tactic(auto, using(crate::proofs::Turning::removed))]
 pub(crate) fn remove(entries: &mut [Entry], place: usize)
     requires { place < length entries.old }
     ensures { entries.new ≡ remove entries.old place ++ blank_entry ∷ [] }

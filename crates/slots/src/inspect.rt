@@ -10,6 +10,7 @@ use slot::{SLOT, decode, head};
 use store::MOST;
 
 // The first flaw of an image, if it has one.
+#[tactic(auto, using(crate::proofs::Places::ok_lawful))]
 pub fn check(bytes: &[u8]) -> Result<(), Flaw>
     ensures refused { result_err result ≡ flaw_of bytes.now }
     ensures usable { is_ok result ≡ lawful_image bytes.now }

@@ -15,6 +15,7 @@ use reading::Fault;
 
 impl Frame {
     // The frame that a line spells, or the first refusal that fits the line.
+    #[tactic(auto, using(std::proofs::lemmas::Bool::Decides::nat_tests, crate::proofs::Spelling::spelled_bytes, crate::proofs::Spelling::bytes_below, crate::proofs::Spelling::length_bytes, crate::proofs::Bytes::each_below))]
     pub fn read(line: &[u8]) -> Result<Frame, Fault>
         ensures refused { result_err result ≡ first (line_tests line.now) }
         ensures value { IfOk result (λ f. held f ≡ bytes_of line.now) }

@@ -14,6 +14,7 @@ use reading::Fault;
 
 impl Frame {
     // The frame of a kind and a payload.
+    #[tactic(auto, using(crate::proofs::Assembly::sealed_framed, crate::proofs::Assembly::framed_below, crate::proofs::Bytes::each_below, crate::proofs::Bytes::slice_below))]
     pub fn new(kind: u8, payload: &[u8]) -> Frame
         requires { length payload.now ≤ 61 }
         ensures { held result ≡ framed kind payload.now }

@@ -22,10 +22,12 @@ impl<'a> Store for Image<'a> {
 
     ghost lawful = { λ store. image_lawful store.bytes.now store.lawful };
 
+    #[tactic(auto, using(slots::proofs::Cutting::table_long))]
     fn capacity(&self) -> usize {
         slots::count(self.bytes)
     }
 
+    #[tactic(auto, using(store::proofs::Stored::found_holds))]
     fn find(&self, at: SiteMonth) -> bool {
         self.place(at).is_some()
     }

@@ -7,6 +7,7 @@ use reading::SiteMonth;
 
 impl Image<'_> {
     // The slot that has the record of a site month.
+    #[tactic(auto, using(slots::proofs::Places::found_from))]
     pub(crate) fn place(&self, at: SiteMonth) -> Option<usize>
         ensures { Found (table_of self.now.bytes.now) at result }
     {

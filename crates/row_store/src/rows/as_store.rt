@@ -21,6 +21,7 @@ impl<'a> Store for Rows<'a> {
         self.rows.len()
     }
 
+    #[tactic(auto, using(store::proofs::Searching::found_position, store::proofs::Stored::found_holds))]
     fn find(&self, at: SiteMonth) -> bool {
         self.position(at).is_some()
     }

@@ -22,6 +22,7 @@ impl<'a> Rows<'a> {
     }
 
     // Empties the rows, and takes them into use. It cannot fail: it asks for what `check` answers.
+    #[tactic(auto, using(store::proofs::Tables::vacant_lawful))]
     pub fn open(rows: &'a mut [Row]) -> Rows<'a>
         requires { (1 ≤ length rows.old) × (length rows.old ≤ 1024) }
         ensures { result.rows.now ≡ replicate (length rows.old) vacant }
