@@ -33,6 +33,7 @@ pub struct Total {
 
 impl Bill {
     // The bill of a reading alone, unless the book refuses the reading.
+    #[tactic(auto, using(crate::proofs::Sums::charges, crate::proofs::Sums::credits, crate::proofs::Sums::amount_at, crate::proofs::Sums::sense_at))]
     pub fn of<B: Book>(book: &B, reading: &Reading) -> Result<Bill, Problem>
         ensures refused { is_err result ≡ is_some ((B.Book.meaning book.now).check reading.now.entry) }
         ensures value { IfOk result (λ bill. Billed (B.Book.meaning book.now) reading.now.entry bill) }

@@ -3,6 +3,7 @@ ghost use Rattle.std.specs.Prelude.{◌≡◌};
 ghost use Rattle.bills.specs.Number.{number_in};
 
 // The number that a text writes in one to ten digits. `parse` would take a plus sign too, and zeros without end.
+#[tactic(auto, using(std::proofs::lemmas::List::Sums::fold_more, crate::proofs::Digits::digits_more, crate::proofs::Digits::value_fits, crate::proofs::Digits::stray))]
 pub fn number(text: &[u8]) -> Option<u64>
     ensures { result ≡ number_in text.now }
 {

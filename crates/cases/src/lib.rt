@@ -7,6 +7,7 @@ ghost use Rattle.cases.specs.Change.{Right};
 ghost use Rattle.cases.specs.Worked.{worked};
 
 // How many worked changes there are. Each answers the amounts expected of it.
+#[tactic(auto, using(crate::proofs::Computed::right))]
 pub fn worked_changes() -> usize
     ensures value { result ≡ length worked }
     ensures right { AllByRecursion Right worked }

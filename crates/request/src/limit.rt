@@ -14,6 +14,7 @@ pub struct Limit {
 }
 
 // A refusal where a field of the frame is above its limit, at the first such.
+#[tactic(auto, using(crate::proofs::Limits::inside_at))]
 pub(crate) fn check_limits(frame: &Frame, limits: &[Limit]) -> Result<(), Fault>
     requires { inside (length (held frame.now)) limits.now ≡ true }
     ensures { result_err result ≡ limit_test limits.now (held frame.now) }
