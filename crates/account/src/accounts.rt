@@ -7,8 +7,8 @@ mod edit;
 mod post;
 mod reply;
 
-// What a request asks, and what it changes. Each call that may change the store says that it is still the one that was lent
-// (`lent`): a fact of a call, so that no invariant can hold it.
+// The book that a request asks, and the store that it changes. Each call that may change the store says that it is still
+// the one that was lent (`lent`): a fact of a call, so that no invariant can hold it.
 #[derive(Drop)]
 pub(crate) struct Accounts<'a, B, S> {
     pub(crate) book: &'a B,

@@ -17,7 +17,7 @@ use store::Store;
 pub const BUFFER: usize = LINE;
 
 // Serves a line and writes its answer, or its refusal, at the front of a buffer of at least 128 bytes. Answers the length
-// of what it wrote.
+// of what it wrote. Line and buffer are the caller's, lent apart: a struct of both would have no other use.
 pub fn serve<B: Book, S: Store>(
     book: &B,
     store: &mut S,

@@ -49,7 +49,9 @@ impl TryFrom<u8> for AmountsKind {
 impl From<AmountsKind> for u8 {
     ghost from_gives = { λ kind byte. byte ≡ kind_byte kind };
 
-    fn from(kind: AmountsKind) -> u8 {
+    fn from(kind: AmountsKind) -> u8
+        ensures { result ≡ kind_byte kind }
+    {
         kind as u8
     }
 }

@@ -50,7 +50,7 @@ impl Bill {
     }
 }
 
-// The problem that a book's refusal names.
+// The problem that a book's refusal names. No From: that would owe a problem for every fault.
 fn refusal(fault: Fault) -> Problem
     requires { layer_of fault ≡ layer.Book }
 {

@@ -11,7 +11,8 @@ use cooperative::Cooperative;
 use oregon::Oregon;
 use std::io;
 
-// What a reading is answered by. A choice of two for the whole run: a closure for it would be handed on by every call.
+// What a reading is answered by. Chosen by an argument at run time, so that a closure would be chosen by a
+// match of two too.
 #[derive(Clone, Copy, Debug, PartialEq, Eq)]
 pub enum Form {
     Statement,

@@ -76,7 +76,8 @@ impl Numbers {
         })
     }
 
-    // The entry of a reading within its limits. A TryFrom would say the two clauses in one member, which is no plainer. Its meter is 0, since the meter changes no amount.
+    // The entry of a reading within its limits. Its meter is 0, since the meter changes no amount. No TryFrom: it is used
+    // once, and the member would repeat its clauses.
     fn entry(&self) -> Result<Entry, Problem>
         ensures within { IfOk result (λ e. lawful e ≡ true) }
         ensures value { IfOk result (λ e. Entered self.now e) }

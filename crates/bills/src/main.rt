@@ -61,8 +61,8 @@ fn main(rt: HostRuntime) -> io::Result<ExitCode> {
     Ok(ExitCode::SUCCESS)
 }
 
-// Answers lines until the input ends. By its bytes and not by a line reader, which keeps the front of a line: the fields of a
-// line of any length count here.
+// Answers lines until the input ends. By its bytes and not by a line reader, which keeps the front of a line: here the
+// fields of a line of any length count.
 fn serve(rt: &HostRuntime, form: Form) -> io::Result<()> {
     let mut input = rt.stdin();
     let mut desk = Desk::new(form);

@@ -72,7 +72,7 @@ fn run(rt: &HostRuntime, path: &str, image: &mut Image<'_>) -> io::Result<()> {
     Ok(())
 }
 
-// Answers a line as a request.
+// Answers a line as a request. oregon_serve does the same by another call, which is all that the step is.
 fn answer_request(image: &mut Image<'_>, line: &[u8], buffer: &mut [u8; BUFFER]) -> Answered<()> {
     let Ok(length) = serve(&Cooperative, image, line, buffer) else {
         unreachable()

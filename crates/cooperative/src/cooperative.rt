@@ -63,7 +63,7 @@ impl Book for Cooperative {
     }
 }
 
-// What a reading costs on a statement line, in units, before it is rounded.
+// What a reading costs on a statement line, in units, before it is rounded. Lines are numbers, by a rule of a book.
 fn exact(reading: &Reading, line: usize) -> u64
     ensures value { result ≡ exact_on reading.now.entry line }
     ensures bound { result ≤ 10 ^ 15 }

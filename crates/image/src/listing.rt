@@ -27,6 +27,7 @@ impl fmt::Display for Listing {
         let site = self.kept.at().site;
         let month = self.kept.at().month;
         let calendar = Calendar(month);
+        // Two words here: a Display of State would owe a third, for an empty row.
         let state = if self.kept.is_closed() {
             "closed"
         } else {

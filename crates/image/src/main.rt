@@ -15,6 +15,7 @@ Says whether FILE can be taken into use as a retentive image, and lists the
 site months that it holds, a line for each. It ends with status 1 where the
 image cannot be taken into use. FILE is only read.";
 
+// As in the program coop-lines, where the reason stands why both have it.
 fn main(rt: HostRuntime) -> io::Result<ExitCode> {
     let Some(path) = image_file::argument(&rt)? else {
         rt.eprintln(USAGE)?;

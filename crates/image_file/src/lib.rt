@@ -7,9 +7,10 @@ use slot::SLOT;
 use std::fs::{File, OpenFile};
 use std::io::{Read, Write};
 use std::{env, fs, io};
+use store::MOST;
 
 // One slot more than an image may have: enough to refuse a longer file for its length.
-const LIMIT: usize = 1025 * SLOT;
+const LIMIT: usize = (MOST + 1) * SLOT;
 
 // The file that the program's one argument names, or nothing where there is another number of them.
 pub fn argument(rt: &HostRuntime) -> io::Result<Option<String>> {

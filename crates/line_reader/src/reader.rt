@@ -8,8 +8,8 @@ use std::io::Read;
 
 const CHUNK: usize = 4096;
 
-// What was read and not yet taken, and the line so far. The chunk is kept by hand in fixed memory: the library's buffered reader
-// takes heap, which no program that serves rows needs.
+// What was read and not yet taken, and the line so far. The chunk is kept by hand in fixed memory: the library's buffered
+// reader takes heap, which no program that serves rows needs.
 #[derive(Drop)]
 pub struct LineReader {
     chunk: [u8; CHUNK],
@@ -34,7 +34,7 @@ impl LineReader {
     }
 
     // Reads the next line: false where the input has ended. A last line without a line feed is a line too. The line itself
-    // is asked for by `line`: an Option of it would be no plainer, since the reader stays lent as long as it is used.
+    // is asked of `line`, whose clauses say what it stands for: the result of an Option has none.
     pub fn advance(&mut self, rt: &HostRuntime) -> io::Result<bool> {
         let mut line = LineBuffer::new();
         let found = self.take_line(rt, &mut line)?;

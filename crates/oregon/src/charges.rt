@@ -11,8 +11,6 @@ use crate::service::Service;
 use book::{CENT, half_up};
 use oregon_card::Schedule;
 
-// Each bound of a charge is that of its own sum: a type for each power of ten would be no plainer.
-//
 // The bands are matches on ranges, as the sheets have them: one search in a table of their ends is no plainer.
 
 // The band of the load size on 28 and 728.
@@ -38,6 +36,8 @@ fn band_730(load: u16) -> usize
     }
 }
 
+// Each bound is that of its own sum: a type for each power of ten would be no plainer. A match on the schedule has an arm
+// for each formula of the sheets; what differs in a rate alone is a table.
 impl Service {
     // The basic charge, in cents.
     pub(crate) fn basic(&self) -> u16

@@ -61,7 +61,7 @@ impl Oregon {
         if line < 9 { rounded(units) } else { units }
     }
 
-    // What a reading costs on a statement line, in units, before it is rounded.
+    // What a reading costs on a statement line, in units, before it is rounded. Lines are numbers, by a rule of a book.
     fn exact(&self, service: &Service, line: usize) -> u64
         ensures value { result ≡ exact_on (values self.now.card) service.now.schedule service.now.entry line }
         ensures bound { result ≤ 10 ^ 18 }

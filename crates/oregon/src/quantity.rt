@@ -59,13 +59,12 @@ impl Service {
         u64::from(rate) * u64::from(kwh) * u64::from(self.factor())
     }
 
-    // A rate in cents for each kW as adjusted, in units. Joined with `per_kwh` it would take the unit and the width of the
-    // quantity as arguments, which is no plainer.
+    // A rate in cents for each kW as adjusted, in units.
     pub(crate) fn per_kw(&self, rate: u16, kw: u16) -> u64
         requires { kw ≤ 10000 }
         ensures value { result ≡ per_kw rate kw self.now.entry }
         ensures bound { result ≤ 10 ^ 16 }
     {
-        u64::from(rate) * u64::from(kw) * u64::from(self.factor()) * 1_000
+        self.per_kwh(rate, u32::from(kw)) * 1_000
     }
 }

@@ -15,8 +15,8 @@ pub(crate) struct Service {
 }
 
 impl Service {
-    // The service of a reading, or the refusal where no schedule serves it. A TryFrom would say these three clauses in one
-    // member, which is no plainer.
+    // The service of a reading, or the refusal where no schedule serves it. No TryFrom: the
+    // member would repeat these three clauses.
     pub(crate) fn of(reading: &Reading) -> Result<Service, Fault>
         ensures refused { result_err result ≡ check reading.now.entry }
         ensures entry { IfOk result (λ service. service.entry ≡ reading.now.entry) }

@@ -72,7 +72,8 @@ impl Schedule {
         (voltage && !self.offers_voltage()) || (entry.multi_family() && !self.offers_multi_family())
     }
 
-    // The schedule of an entry that the book serves.
+    // The schedule of an entry that the book serves. No TryFrom of an entry: a number has that, and here the flags are
+    // asked too.
     pub fn serving(entry: &Entry) -> Result<Schedule, Fault>
         ensures refused { result_err result ≡ check entry.now }
         ensures value { IfOk result (λ s. schedule_of entry.now.schedule ≡ Some s) }

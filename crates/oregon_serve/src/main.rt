@@ -28,7 +28,7 @@ fn main(rt: HostRuntime) -> io::Result<()> {
     Ok(())
 }
 
-// Answers a line as a card, which is found if it is accepted.
+// Answers a line as a card, which is found if it is accepted. oregon_lines has this step too, and says why.
 fn answer_card(line: &[u8], buffer: &mut [u8; BUFFER]) -> Answered<Card> {
     let Ok(reply) = take_card(line, buffer) else {
         unreachable()
@@ -39,7 +39,7 @@ fn answer_card(line: &[u8], buffer: &mut [u8; BUFFER]) -> Answered<Card> {
     }
 }
 
-// Answers a line as a request.
+// Answers a line as a request. coop_lines does the same by another call, which is all that the step is.
 fn answer_request(
     oregon: &Oregon,
     store: &mut Rows<'_>,

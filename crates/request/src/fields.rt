@@ -70,6 +70,9 @@ const READING_LIMITS: [Limit; 6] = [
     },
 ];
 
+// The most that an earlier demand may be, in kW.
+const MOST_EARLIER: u32 = 9_999;
+
 // The demand of an earlier month, counted from 0. These are a reading's last fields.
 fn earlier_demand(i: usize) -> Field
     requires { i < 11 }
@@ -87,7 +90,7 @@ fn earlier_limits() -> [Limit; 11]
 {
     array::from_fn(|i| Limit {
         field: earlier_demand(i),
-        most: 9_999,
+        most: MOST_EARLIER,
     })
 }
 

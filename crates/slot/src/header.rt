@@ -51,7 +51,8 @@ pub(crate) fn header_bytes(row: &Row) -> [u8; HEADER]
     [state_byte(row.state), row.count as u8, a, b, c, d, e, f]
 }
 
-// The state's byte. Neither type is of this crate, so this and its inverse can't be a From and a TryFrom.
+// The state's byte. Neither type is of this crate, so this and its inverse can't be a From and a TryFrom; a type of its own
+// for the byte is no plainer.
 fn state_byte(state: State) -> u8
     ensures { result ≡ state_byte state }
 {

@@ -6,4 +6,4 @@ mod header;
 mod slot;
 
 pub use header::head;
-pub use slot::{BadSlot, SLOT, decode, encode};
+pub use slot::{BadSlot, EMPTY, SLOT, decode, encode};

@@ -11,11 +11,15 @@ use record::{Record, Row};
 // How many bytes a slot takes.
 pub const SLOT: usize = 424;
 
+// A slot that is not in use.
+pub const EMPTY: [u8; SLOT] = [0; SLOT];
+
 // The bytes are not those of a slot: neither all zero nor what the encoder writes for a record.
 #[derive(Clone, Copy, Debug, PartialEq, Eq)]
 pub struct BadSlot;
 
-// The slot of a record.
+// The slot of a record. A pair of functions with `decode`: neither an array nor an Option of a record is of this crate, so
+// that no From and TryFrom can be.
 pub fn encode(kept: &Record) -> [u8; SLOT]
     ensures value { result ≡ slot_bytes kept.now.row }
     ensures reads_back { row_in result ≡ kept.now.row }

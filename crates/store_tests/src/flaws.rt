@@ -4,12 +4,10 @@ use crate::refusal::check_refused;
 use crate::samples::record_with;
 use crate::table::check_all;
 use reading::{Fault, SiteMonth};
-use slot::{SLOT, encode};
+use slot::{EMPTY, SLOT, encode};
 use slots::Flaw;
 use std::process::Abort;
 use std::test::*;
-
-const EMPTY: [u8; SLOT] = [0; SLOT];
 
 // A site month of no other slot.
 const ELSEWHERE: SiteMonth = SiteMonth { site: 1, month: 1 };

@@ -9,7 +9,7 @@ use std::test::*;
 use store::Store;
 
 // Played on a store that holds nothing.
-// A trait, since a closure has one type of store; one over a `&mut dyn Store` was tried, and its proof does not close.
+// A trait, since a closure has one type of store; over a `&mut dyn Store` the proof does not close.
 pub(crate) trait Scenario {
     fn play<S: Store>(rt: &impl Abort, store: &mut S);
 }

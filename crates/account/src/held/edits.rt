@@ -37,10 +37,8 @@ impl Held {
         ensures refused { result_err result ≡ meter_test reading.now.entry.meter (readings_of (found self.now.kept)) }
         ensures value { IfOk result (Edited self.now (replaced reading.now.entry)) }
     {
-        let kept = match &self.kept {
-            Some(record) => record.replacing(reading)?,
-            None => return Err(Fault::NoMeter),
-        };
+        let record = self.kept.as_ref().ok_or(Fault::NoMeter)?;
+        let kept = record.replacing(reading)?;
         Ok(Held {
             at: self.at,
             kept: Some(kept),
@@ -52,10 +50,8 @@ impl Held {
         ensures refused { result_err result ≡ meter_test meter (readings_of (found self.now.kept)) }
         ensures value { IfOk result (Edited self.now (taken_out meter)) }
     {
-        let kept = match &self.kept {
-            Some(record) => record.without(meter)?,
-            None => return Err(Fault::NoMeter),
-        };
+        let record = self.kept.as_ref().ok_or(Fault::NoMeter)?;
+        let kept = record.without(meter)?;
         Ok(Held { at: self.at, kept })
     }
 

@@ -1,5 +1,5 @@
 // The parts of a frame.
-ghost use Rattle.std.specs.Prelude.{◌≡◌, ◌+◌, ◌^◌, ◌<◌, ◌≤◌, not, length, OnOk};
+ghost use Rattle.std.specs.Prelude.{◌≡◌, ◌+◌, ◌^◌, ◌<◌, ◌≤◌, not, length, OnOk, ⊤};
 ghost use Rattle.std.specs.Result.{result_err};
 ghost use Rattle.std.specs.Int.Digits.{number_from_digits};
 ghost use Rattle.reading.specs.declared.fault.Fault.TheVariants.{PayloadLength};
@@ -9,6 +9,7 @@ ghost use Rattle.reading.specs.First.{when};
 
 use crate::frame::Frame;
 use reading::Fault;
+use std::alloc::AllocError;
 
 // The kind, the length byte, and the rest: the payload and the check byte.
 #[derive(Clone, Copy)]
@@ -23,6 +24,19 @@ struct Parts<'a> {
 pub struct Field {
     pub byte: usize,
     pub width: usize,
+}
+
+// Written out, since a derive is refused over an invariant. It does not fail.
+impl Clone for Frame {
+    ghost is_clone = { λ frame copy. held copy ≡ held frame };
+
+    ghost is_infallible = { λ frame. ⊤ };
+
+    fn clone(&self) -> Result<Frame, AllocError> {
+        Ok(Frame {
+            bytes: self.bytes.clone()?,
+        })
+    }
 }
 
 impl Frame {

@@ -11,11 +11,8 @@ use crate::image::Image;
 use crate::image::put::put;
 use reading::{Fault, SiteMonth};
 use record::Record;
-use slot::{SLOT, decode, encode};
+use slot::{EMPTY, decode, encode};
 use store::Store;
-
-// A slot that is not in use.
-const EMPTY: [u8; SLOT] = [0; SLOT];
 
 impl<'a> Store for Image<'a> {
     ghost meaning = { λ store. table_meaning (table_of store.bytes.now) };

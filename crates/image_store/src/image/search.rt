@@ -25,6 +25,7 @@ impl Image<'_> {
     pub(crate) fn room(&self, at: SiteMonth) -> Option<usize>
         ensures { Room (table_of self.now.bytes.now) at result }
     {
+        // A match: with `or_else` the proof does not close.
         match self.place(at) {
             None => self.vacancy(),
             own => own,

@@ -18,14 +18,15 @@ use frame::{Field, Frame};
 use reading::Fault;
 use std::array;
 
-// The length of the answer line, and the card, or the refusal that was written.
+// The length of the answer line, and the card, or the refusal that was written. The length stands beside the caller's
+// buffer, which the call fills.
 #[derive(Clone, Copy)]
 pub struct CardReply {
     pub length: usize,
     pub card: Result<Card, Fault>,
 }
 
-// The one kind that this call serves: a list of one would be no plainer.
+// The one kind that this call serves: an enum of one would be no plainer.
 const KIND: u8 = 0x10;
 
 const CAP: Field = Field { byte: 3, width: 4 };
