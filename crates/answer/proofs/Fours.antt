@@ -1,16 +1,13 @@
 -- An amount and its four bytes, back and forth.
-use Rattle.std.proofs.Common.{◌≡◌, ℕ, ◌+◌, ◌*◌, ◌/◌, ◌%◌, ◌<◌, [], ◌∷◌, ℤ, ap, ◌∙◌, arith, w32, SFits, to_z, of_z}
+use Rattle.std.proofs.Common.{◌≡◌, ℕ, ◌/◌, ◌%◌, ◌<◌, [], ◌∷◌, ℤ, ap, ◌∙◌, arith, w32, SFits, to_z, of_z}
 use Rattle.std.specs.Int.Digits.{number_from_digits}
 use Rattle.std.proofs.lemmas.Int.{ints, to_z-of_z, of_z-to_z}
+use Rattle.std.proofs.lemmas.Nat.{from_be_bytes-to_be_bytes_4}
 use Rattle.frame.specs.Seal.{four_bytes}
 use Rattle.answer.specs.Amounts.{amount_bytes}
 
 number_four : (n : ℕ) → n < 4294967296 → number_from_digits 256 (four_bytes n) ≡ n
-number_four n h =
-    let top : n / 16777216 % 256 ≡ n / 16777216 = omega arith in
-    let second : n / 65536 ≡ 256 * (n / 16777216) + n / 65536 % 256 = omega arith in
-    let third : n / 256 ≡ 256 * (n / 65536) + n / 256 % 256 = omega arith in
-    omega arith
+number_four n h = omega (arith, from_be_bytes-to_be_bytes_4 n h)
 
 -- What is written reads back.
 pub amount_back : (z : ℤ) → SFits w32 z → to_z w32 (number_from_digits 256 (amount_bytes z)) ≡ z

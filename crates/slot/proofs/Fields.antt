@@ -1,21 +1,18 @@
 -- Numbers in two and in four bytes, back and forth.
-use Rattle.std.proofs.Common.{◌≡◌, ℕ, zero, suc, ◌+◌, ◌*◌, ◌/◌, ◌%◌, ◌<◌, ◌≤◌, List, [], ◌∷◌, length, get_or, take, drop, refl, add-one, arith}
+use Rattle.std.proofs.Common.{◌≡◌, ℕ, zero, suc, ◌+◌, ◌/◌, ◌%◌, ◌<◌, ◌≤◌, List, [], ◌∷◌, length, get_or, take, drop, refl, add-one, arith}
 use Rattle.std.specs.List.{AllByRecursion as All}
 use Rattle.std.proofs.ByRecursion.{All-get_or}
 use Rattle.std.proofs.lemmas.List.{drop_more}
+use Rattle.std.proofs.lemmas.Nat.{from_be_bytes-to_be_bytes_2, from_be_bytes-to_be_bytes_4}
 use Rattle.frame.specs.Seal.{two_bytes, four_bytes}
 use Rattle.slot.specs.Reading.{two_at, four_at}
 
 -- What is written reads back.
 pub two_back : (n : ℕ) → n < 65536 → two_at (two_bytes n) 0 ≡ n
-two_back n h = let high : n / 256 % 256 ≡ n / 256 = omega arith in omega arith
+two_back n h = omega (arith, from_be_bytes-to_be_bytes_2 n h)
 
 pub four_back : (n : ℕ) → n < 4294967296 → four_at (four_bytes n) 0 ≡ n
-four_back n h =
-    let top : n / 16777216 % 256 ≡ n / 16777216 = omega arith in
-    let second : n / 65536 ≡ 256 * (n / 16777216) + n / 65536 % 256 = omega arith in
-    let third : n / 256 ≡ 256 * (n / 65536) + n / 256 % 256 = omega arith in
-    omega arith
+four_back n h = omega (arith, from_be_bytes-to_be_bytes_4 n h)
 
 -- Some bytes, one by one: the n from the given one on.
 abbrev pub bytes_from : ℕ → ℕ → List ℕ → List ℕ
