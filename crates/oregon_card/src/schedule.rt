@@ -1,8 +1,9 @@
 // Oregon's schedules.
-ghost use Rattle.std.specs.Prelude.{◌≡◌, IfOk, Some};
+ghost use Rattle.std.specs.Prelude.{◌≡◌, not, is_some, IfOk, Some};
 ghost use Rattle.std.specs.Option.{ok_or};
 ghost use Rattle.std.specs.Result.{result_err};
 ghost use Rattle.reading.specs.declared.fault.Fault.TheVariants as fault;
+ghost use Rattle.reading.specs.First.{when};
 ghost use Rattle.oregon_card.specs.Schedules.{schedule_of, place as place_of, offers_voltage, offers_multi_family, unoffered as unoffered_on, check};
 
 use reading::{Entry, Fault};
@@ -25,7 +26,10 @@ impl TryFrom<u16> for Schedule {
 
     ghost try_from_gives = { λ number result. result ≡ ok_or (schedule_of number) fault.Schedule };
 
-    fn try_from(number: u16) -> Result<Schedule, Fault> {
+    fn try_from(number: u16) -> Result<Schedule, Fault>
+        ensures refused { result_err result ≡ when (not (is_some (schedule_of number))) fault.Schedule }
+        ensures value { IfOk result (λ s. schedule_of number ≡ Some s) }
+    {
         match number {
             4 => Ok(Schedule::S4),
             5 => Ok(Schedule::S5),

@@ -14,6 +14,7 @@ use record::Record;
 use slot::{EMPTY, decode, encode};
 use store::Store;
 
+// A store over rows has the same bodies, and says why both stand.
 impl<'a> Store for Image<'a> {
     ghost meaning = { λ store. table_meaning (table_of store.bytes.now) };
 

@@ -10,8 +10,8 @@ use reading::{Fault, SiteMonth};
 use record::{Record, VACANT};
 use store::Store;
 
-// An image's store has the same bodies. A trait below both would have six calls with laws for these five: how many rows
-// there are, the two searches, and a row read, written and emptied.
+// An image's store has the same bodies, but each promises of its own memory what changes there. A trait below both would have six
+// calls with laws for these five: how many rows there are, the two searches, and a row read, written and emptied.
 impl<'a> Store for Rows<'a> {
     ghost meaning = { λ store. table_meaning store.rows.now };
 
