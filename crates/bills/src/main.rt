@@ -66,6 +66,7 @@ fn main(rt: HostRuntime) -> io::Result<ExitCode> {
 fn serve(rt: &HostRuntime, form: Form) -> io::Result<()> {
     let mut input = rt.stdin();
     let mut desk = Desk::new(form);
+    // A chunk of its own size: the line reader's is no matter of this program.
     let mut chunk = [0; 4096];
     for _ in 0..u64::MAX {
         let count = input.read(&mut chunk)?;

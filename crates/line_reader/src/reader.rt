@@ -42,7 +42,7 @@ impl LineReader {
         Ok(found)
     }
 
-    // Takes what is left of a line.
+    // Takes what is left of a line: false where there is none, as `advance` says it.
     fn take_line(&mut self, rt: &HostRuntime, line: &mut LineBuffer) -> io::Result<bool> {
         for _ in 0..u64::MAX {
             if self.next == self.count && self.fill(rt)? == 0 {

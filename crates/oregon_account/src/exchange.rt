@@ -14,7 +14,7 @@ use reading::Fault;
 use store::Store;
 
 // Serves a line and writes its answer, or its refusal, at the front of a buffer of at least 128 bytes. Answers the length
-// of what it wrote.
+// of what it wrote. Line and buffer stand apart, as in `account`.
 pub fn serve_oregon<S: Store>(
     book: &Oregon,
     store: &mut S,

@@ -45,6 +45,7 @@ pub fn decode(slot: &[u8]) -> Result<Option<Record>, BadSlot>
     if all_zero(slot) {
         return Ok(None);
     }
+    // A match of two arms: a chain of `map` and `map_err` is no plainer.
     match Record::try_from(row_in(slot)?) {
         Ok(kept) => Ok(Some(kept)),
         Err(_) => Err(BadSlot),

@@ -61,9 +61,7 @@ impl Held {
         ensures value { IfOk result (λ x. Some (holding x.row) ≡ option_map (λ (h : Holding). record { at = h.at; closed = true; readings = h.readings }) (found self.now.kept)) }
     {
         self.check_open()?;
-        match &self.kept {
-            Some(record) => Ok(record.closed()),
-            None => Err(Fault::NotHeld),
-        }
+        let record = self.kept.as_ref().ok_or(Fault::NotHeld)?;
+        Ok(record.closed())
     }
 }

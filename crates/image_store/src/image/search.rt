@@ -25,7 +25,7 @@ impl Image<'_> {
     pub(crate) fn room(&self, at: SiteMonth) -> Option<usize>
         ensures { Room (table_of self.now.bytes.now) at result }
     {
-        // A match: with `or_else` the proof does not close.
+        // A match: with `or_else` the proof does not close. It stands twice, as the calls of the two stores do.
         match self.place(at) {
             None => self.vacancy(),
             own => own,

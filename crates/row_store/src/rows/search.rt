@@ -26,7 +26,7 @@ impl Rows<'_> {
     pub(crate) fn room(&self, at: SiteMonth) -> Option<usize>
         ensures { result ≡ option_or (position (keyed at) self.now.rows.now) (position (λ row. not (used row.state)) self.now.rows.now) }
     {
-        // A match: with `or_else` the proof does not close.
+        // A match: with `or_else` the proof does not close. It stands twice, as the calls of the two stores do.
         match self.position(at) {
             None => self.vacancy(),
             own => own,
