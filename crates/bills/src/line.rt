@@ -1,11 +1,10 @@
 // A line as it arrives.
 use line_buffer::LineBuffer;
-use std::array;
 
 pub const FIELDS: usize = 10;
 
 // Only the front of a long line or a long field is kept: one that long is no card, no name and no number.
-#[derive(Drop)]
+#[derive(Clone, Copy)]
 pub struct Line {
     // The line, for a card.
     characters: LineBuffer,
@@ -22,7 +21,7 @@ impl Line {
     pub fn new() -> Line {
         Line {
             characters: LineBuffer::new(),
-            fields: array::from_fn(|_| LineBuffer::new()),
+            fields: [LineBuffer::new(); FIELDS],
             commas: 0,
             returned: false,
         }

@@ -1,12 +1,45 @@
 -- A frame put together, and what it is made of.
-use Rattle.std.proofs.Common.{◌≡◌, ℕ, true, ◌+◌, ◌-◌, ◌<◌, ◌≤◌, List, [], ◌∷◌, ◌++◌, length, get_or, take, sym, ap, ◌∙◌, subst, arith}
+use Rattle.std.proofs.Common.{◌≡◌, ℕ, true, suc, ◌+◌, ◌-◌, ◌<◌, ◌≤◌, List, [], ◌∷◌, ◌++◌, length, get_or, take, drop, set, sym, ap, ◌∙◌, subst, arith}
+use borrow.Rule.Slice.PartMut.{put_mid}
 use Rattle.std.specs.List.{AllByRecursion as All}
-use Rattle.std.proofs.lemmas.List.{drop_more, drop_all, take-append-drop, length-take-le}
+use Rattle.std.proofs.lemmas.List.{drop_more, drop_all, set_at, take_at, take-append-drop, append_assoc, length-append, length-take-le}
 use Rattle.std.proofs.ByRecursion.{All-get_or, All-append}
 use Rattle.std.proofs.lemmas.List.Sums.{sum_by_push}
 use Rattle.frame.specs.Seal.{Sealed, all_bytes, check_byte, framed, kind_of, length_byte, payload_of}
+use Rattle.frame.specs.Written.{fronted}
 use Rattle.frame.proofs.Bytes.{below_each}
 use Rattle.frame.proofs.Sums.{sealed}
+
+-- The kind and the length byte are set, and the payload copied behind them.
+pub body_front : (bs payload : List ℕ) (k n : ℕ) → length payload ≡ n → n + 2 ≤ length bs → put_mid 2 (n + 2 - 2) (set (set bs 0 k) 1 n) payload ≡ (k ∷ n ∷ payload) ++ drop (n + 2) bs
+body_front [] payload k n len room = absurd (omega arith)
+body_front (x ∷ []) payload k n len room = absurd (omega arith)
+body_front (x ∷ y ∷ rest) payload k n len room =
+    let m : n + 2 - 2 ≡ n = omega arith in
+    let s : n + 2 ≡ suc (suc n) = omega arith in
+    rw (m, s)
+
+-- One byte more behind what stands at the front.
+pub front_more : (body bs : List ℕ) (n b : ℕ) → length body ≡ n → n < length bs → set (body ++ drop n bs) n b ≡ fronted (body ++ b ∷ []) bs
+front_more body bs n b len room =
+    let longer : length (body ++ b ∷ []) ≡ n + 1 = omega (arith, length-append body (b ∷ [])) in
+    ap (λ l. set (body ++ l) n b) (drop_more bs n 0 room)
+    ∙ set_at body (get_or bs n 0) (drop (n + 1) bs) b n len
+    ∙ sym (append_assoc body (b ∷ []) (drop (n + 1) bs))
+    ∙ ap (λ m. (body ++ b ∷ []) ++ drop m bs) (sym longer)
+
+-- The check byte behind the body completes the frame.
+pub frame_front : (bs front payload : List ℕ) (kind n check : ℕ) → length payload ≡ n → n + 2 < length bs → front ≡ (kind ∷ n ∷ payload) ++ drop (n + 2) bs → check ≡ check_byte (take (n + 2 - 0) front) → take (n + 3) (set front (n + 2) check) ≡ (kind ∷ n ∷ payload) ++ check_byte (kind ∷ n ∷ payload) ∷ []
+frame_front bs front payload kind n check len room is seals =
+    let body = kind ∷ n ∷ payload in
+    let long : length body ≡ n + 2 = omega arith in
+    let longer : length (body ++ check ∷ []) ≡ n + 3 = omega (arith, length-append payload (check ∷ [])) in
+    let all : n + 2 - 0 ≡ n + 2 = omega arith in
+    let whole : take (n + 2 - 0) front ≡ body = ap (λ m. take m front) all ∙ ap (take (n + 2)) is ∙ take_at body (drop (n + 2) bs) (n + 2) long in
+    ap (λ l. take (n + 3) (set l (n + 2) check)) is
+    ∙ ap (take (n + 3)) (front_more body bs (n + 2) check long room)
+    ∙ take_at (body ++ check ∷ []) (drop (length (body ++ check ∷ [])) bs) (n + 3) longer
+    ∙ ap (λ b. body ++ b ∷ []) (seals ∙ ap check_byte whole)
 
 pub sealed_framed : (kind : ℕ) (payload : List ℕ) → Sealed (framed kind payload)
 sealed_framed kind payload = sealed (kind ∷ length payload ∷ payload)

@@ -1,6 +1,6 @@
 -- The steps of reading a line two characters at a time.
-use Rattle.std.proofs.Common.{◌≡◌, ℕ, zero, suc, ◌+◌, ◌*◌, ◌/◌, ◌<◌, ◌≤◌, not, List, [], ◌∷◌, ◌++◌, length, get_or, drop, is_some, Some, sym, refl, ap, ◌∙◌, arith}
-use Rattle.std.proofs.lemmas.List.{append_assoc}
+use Rattle.std.proofs.Common.{◌≡◌, ℕ, zero, suc, ◌+◌, ◌*◌, ◌/◌, ◌<◌, ◌≤◌, not, List, [], ◌∷◌, ◌++◌, length, get_or, take, drop, set, is_some, Some, sym, refl, ap, ◌∙◌, arith}
+use Rattle.std.proofs.lemmas.List.{append_assoc, take_more_set}
 use Rattle.std.specs.Simd.{first_chunks}
 use Rattle.reading.specs.declared.fault.Fault.{Fault}
 use Rattle.reading.specs.declared.fault.Fault.TheVariants.{Digit}
@@ -54,10 +54,10 @@ module _ (line : List ℕ) (pairs : List (List ℕ)) (i : ℕ) (cut : pairs ≡ 
         ap (λ k. digits_from k rest) on ∙ rw (high, low) at here
 
   -- The bytes so far with that of the pair.
-  pub byte_more : (bytes next : List ℕ) (v w : ℕ) → next ≡ bytes ++ (16 * v + w) ∷ [] → value_of (at pairs i 0) ≡ Some v → value_of (at pairs i 1) ≡ Some w → bytes ++ bytes_of (drop (2 * i) line) ≡ bytes_of line → next ++ bytes_of (drop (2 * (i + 1)) line) ≡ bytes_of line
-  byte_more bytes next v w is high low so_far =
+  pub byte_more : (bytes : List ℕ) (v w : ℕ) → value_of (at pairs i 0) ≡ Some v → value_of (at pairs i 1) ≡ Some w → i < length bytes → take i bytes ++ bytes_of (drop (2 * i) line) ≡ bytes_of line → take (i + 1) (set bytes i (16 * v + w)) ++ bytes_of (drop (2 * (i + 1)) line) ≡ bytes_of line
+  byte_more bytes v w high low room so_far =
       let here : bytes_of (drop (2 * i) line) ≡ (16 * v + w) ∷ bytes_of rest = ap bytes_of split ∙ rw (high, low) in
-      ap (λ l. l ++ bytes_of rest) is
-      ∙ append_assoc bytes ((16 * v + w) ∷ []) (bytes_of rest)
-      ∙ ap (λ l. bytes ++ l) (sym here)
+      ap (λ l. l ++ bytes_of rest) (take_more_set bytes i (16 * v + w) room)
+      ∙ append_assoc (take i bytes) ((16 * v + w) ∷ []) (bytes_of rest)
+      ∙ ap (λ l. take i bytes ++ l) (sym here)
       ∙ so_far

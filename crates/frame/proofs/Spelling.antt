@@ -1,11 +1,12 @@
 -- Lines and bytes, back and forth.
-use Rattle.std.proofs.Common.{◌≡◌, ℕ, ◌+◌, ◌*◌, ◌/◌, ◌%◌, ◌<◌, ◌≤◌, List, [], ◌∷◌, ◌++◌, length, get_or, take, Some, None, sym, refl, ap, ◌∙◌, ⊎_elim, arith}
+use Rattle.std.proofs.Common.{◌≡◌, ℕ, ◌+◌, ◌-◌, ◌*◌, ◌/◌, ◌%◌, ◌<◌, ◌≤◌, List, [], ◌∷◌, ◌++◌, length, get_or, take, drop, set, Some, None, sym, refl, ap, ◌∙◌, ⊎_elim, arith}
 use Rattle.std.specs.List.{AllByRecursion as All}
-use Rattle.std.proofs.lemmas.List.{append_assoc, take_more, length-take-le}
+use Rattle.std.proofs.lemmas.List.{drop_more, set_at, set-append_right, append_assoc, take_more, length-take-le, length-append}
 use Rattle.reading.specs.declared.fault.Fault.TheVariants.{Digit}
 use Rattle.frame.specs.Digit.{value_of, digit_of}
 use Rattle.frame.specs.Line.{spelled, bytes_of}
 use Rattle.frame.specs.Tests.{digits_from}
+use Rattle.frame.specs.Written.{fronted}
 use Rattle.frame.proofs.Digits.{value_digit, digit_value, value_below, value_some, cases_value}
 
 pub length_spelled : (bs : List ℕ) → length (spelled bs) ≡ 2 * length bs
@@ -66,14 +67,29 @@ spelled_bytes n (high ∷ low ∷ line) h e =
     let y : (16 * v + w) % 16 ≡ w = omega arith in
     rw (a.1, b.1, x, y, digit_value high v a.1, digit_value low w b.1, spelled_bytes (n + 1 + 1) line b.2 (omega arith))
 
--- One byte more.
-pub spelled_more : (bs : List ℕ) (i : ℕ) → i < length bs → spelled (take (i + 1) bs) ≡ (spelled (take i bs) ++ digit_of (get_or bs i 0 / 16) ∷ []) ++ digit_of (get_or bs i 0 % 16) ∷ []
-spelled_more bs i h =
-    let b = get_or bs i 0 in
-    ap spelled (take_more bs i 0 h)
-    ∙ spelled_append (take i bs) (b ∷ [])
-    ∙ sym (append_assoc (spelled (take i bs)) (digit_of (b / 16) ∷ []) (digit_of (b % 16) ∷ []))
+-- Two characters written behind those of the bytes before.
+write_two : (s buffer : List ℕ) (n high low : ℕ) → length s ≡ n → n + 1 < length buffer → set (set (s ++ drop n buffer) n high) (n + 1) low ≡ s ++ high ∷ low ∷ drop (n + 1 + 1) buffer
+write_two s buffer n high low len room =
+    let x = get_or buffer n 0 in
+    let y = get_or buffer (n + 1) 0 in
+    let rest = drop (n + 1 + 1) buffer in
+    let one : n + 1 - n ≡ 1 = omega arith in
+    ap (λ l. set (set (s ++ l) n high) (n + 1) low) (drop_more buffer n 0 (omega arith) ∙ ap (λ l. x ∷ l) (drop_more buffer (n + 1) 0 room))
+    ∙ ap (λ l. set l (n + 1) low) (set_at s x (y ∷ rest) high n len)
+    ∙ set-append_right s (high ∷ y ∷ rest) n (n + 1) low len (omega arith)
+    ∙ ap (λ k. s ++ set (high ∷ y ∷ rest) k low) one
 
--- How long the line of the first bytes is.
-pub length_spelled_take : (bs : List ℕ) (i : ℕ) → i ≤ length bs → length (spelled (take i bs)) ≡ 2 * i
-length_spelled_take bs i h = length_spelled (take i bs) ∙ ap (λ n. 2 * n) (length-take-le i bs h)
+-- One byte more of a line at the front of a buffer.
+pub spell_more : (bs buffer front : List ℕ) (i : ℕ) → i < length bs → 2 * length bs ≤ length buffer → front ≡ fronted (spelled (take i bs)) buffer → set (set front (2 * i) (digit_of (get_or bs i 0 / 16))) (2 * i + 1) (digit_of (get_or bs i 0 % 16)) ≡ fronted (spelled (take (i + 1) bs)) buffer
+spell_more bs buffer front i h room e =
+    let s = spelled (take i bs) in
+    let b = get_or bs i 0 in
+    let two = digit_of (b / 16) ∷ digit_of (b % 16) ∷ [] in
+    let len : length s ≡ 2 * i = length_spelled (take i bs) ∙ ap (λ n. 2 * n) (length-take-le i bs (omega arith)) in
+    let next : spelled (take (i + 1) bs) ≡ s ++ two = ap spelled (take_more bs i 0 h) ∙ spelled_append (take i bs) (b ∷ []) in
+    let longer : length (s ++ two) ≡ 2 * i + 1 + 1 = omega (arith, length-append s two) in
+    ap (λ l. set (set l (2 * i) (digit_of (b / 16))) (2 * i + 1) (digit_of (b % 16))) (e ∙ ap (λ n. s ++ drop n buffer) len)
+    ∙ write_two s buffer (2 * i) (digit_of (b / 16)) (digit_of (b % 16)) len (omega arith)
+    ∙ sym (append_assoc s two (drop (2 * i + 1 + 1) buffer))
+    ∙ ap (λ n. (s ++ two) ++ drop n buffer) (sym longer)
+    ∙ ap (λ l. fronted l buffer) (sym next)

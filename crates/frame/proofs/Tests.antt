@@ -5,12 +5,15 @@ use Rattle.std.proofs.lemmas.Bool.{eq-eqb}
 use Rattle.reading.specs.declared.fault.Fault.TheVariants.{LineLength, PayloadLength}
 use Rattle.frame.specs.Seal.{Sealed, all_bytes, carries, length_byte}
 use Rattle.reading.specs.First.{when}
-use Rattle.frame.specs.Tests.{sum_test, ReadsBack}
+use Rattle.frame.specs.Tests.{buffer_test, sum_test, ReadsBack}
 use Rattle.frame.proofs.Spelling.{length_spelled, bytes_spelled, digits_spelled}
 use Rattle.frame.proofs.Bytes.{below_each}
 
 length_fits : (n : ℕ) → 3 ≤ n → n ≤ 64 → when (eqb (2 * n % 2) 1 || (ltb (2 * n) 6 || ltb 128 (2 * n))) LineLength ≡ None
 length_fits n least most = grind (arith, nat_tests)
+
+pub buffer_room : (n : ℕ) → 128 ≤ n → None ≡ buffer_test n
+buffer_room n h = grind (arith, nat_tests)
 
 pub sum_passes : (frame : List ℕ) → Sealed frame → sum_test frame ≡ None
 sum_passes frame h = rw (eq-eqb (sum frame % 256) 0 h)

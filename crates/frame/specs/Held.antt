@@ -1,7 +1,7 @@
 -- What a frame in memory holds.
-use Rattle.std.specs.Prelude.{ℕ, List}
+use Rattle.std.specs.Prelude.{ℕ, List, take}
 use Rattle.frame.specs.declared.frame.Frame.{Frame}
 
 -- The bytes of a frame.
 abbrev pub held : Frame → List ℕ
-held f = f.bytes.items
+held f = take f.len f.bytes

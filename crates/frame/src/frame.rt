@@ -1,8 +1,6 @@
 // A frame: kind, length byte, payload and check byte.
-ghost use Rattle.std.specs.Prelude.{◌≡◌, ◌≤◌, true, length};
+ghost use Rattle.std.specs.Prelude.{◌≡◌, ◌≤◌, true, take};
 ghost use Rattle.frame.specs.Seal.{Sealed, all_bytes};
-
-use arrayvec::ArrayVec;
 
 mod parts;
 mod read;
@@ -16,11 +14,14 @@ pub const LINE: usize = 128;
 // The most bytes of a frame, two characters each.
 const SIZE: usize = LINE / 2;
 
-// At most 64 bytes, whose sum is a multiple of 256.
-#[derive(Drop)]
+// At most 64 bytes, whose sum is a multiple of 256. An array with a length beside it: the library's vector of fixed capacity is
+// not Copy, and a frame is copied like any plain value.
+#[derive(Clone, Copy)]
 pub struct Frame {
-    bytes: ArrayVec<u8, SIZE>,
-    ghost least: { 3 ≤ length bytes.items },
-    ghost fit: { all_bytes bytes.items ≡ true },
-    ghost checked: { Sealed bytes.items },
+    bytes: [u8; SIZE],
+    len: usize,
+    ghost least: { 3 ≤ len },
+    ghost most: { len ≤ 64 },
+    ghost fit: { all_bytes (take len bytes) ≡ true },
+    ghost checked: { Sealed (take len bytes) },
 }

@@ -1,6 +1,7 @@
 // Lines from standard input.
-ghost use Rattle.std.specs.Prelude.{◌≡◌, ℕ, ◌≤◌, List, [], take};
+ghost use Rattle.std.specs.Prelude.{◌≡◌, ℕ, ◌≤◌, false, List, [], take, Ok, IfOk};
 ghost use Rattle.line_buffer.specs.Received.{received, StandsFor};
+ghost use Rattle.line_reader.specs.declared.reader.AtEnd.TheVariants.{Stop, Stopped};
 
 use line_buffer::LineBuffer;
 use std::io;
@@ -8,42 +9,78 @@ use std::io::Read;
 
 const CHUNK: usize = 4096;
 
-// What was read and not yet taken, and the line so far. The chunk is kept by hand in fixed memory: the library's buffered
-// reader takes heap, which no program that serves rows needs.
-#[derive(Drop)]
+// What a reader does where the input ends.
+#[derive(Clone, Copy, Debug, PartialEq, Eq)]
+enum AtEnd {
+    // The next line is read all the same: a terminal can give more.
+    GoOn,
+    // It reads no more.
+    Stop,
+    // It has stopped.
+    Stopped,
+}
+
+// What was read and not yet taken, the line so far, and what is done at the end of the input. The chunk is kept by hand in
+// fixed memory: the library's buffered reader takes heap, which no program that serves rows needs.
+#[derive(Clone, Copy)]
 pub struct LineReader {
     chunk: [u8; CHUNK],
     next: usize,
     count: usize,
     line: LineBuffer,
+    at_end: AtEnd,
     ghost taken: { next ≤ count },
     ghost fits: { count ≤ 4096 },
 }
 
 impl LineReader {
-    // Nothing is read yet.
+    // Nothing is read yet. Where the input has ended, it is asked again for the next line.
     pub fn new() -> LineReader
         ensures { received result.line ≡ [] }
+    {
+        LineReader::with_end(AtEnd::GoOn)
+    }
+
+    // Nothing is read yet. Where the input has ended, no more is read.
+    pub fn fused() -> LineReader
+        ensures empty { received result.line ≡ [] }
+        ensures stops { result.at_end ≡ Stop }
+    {
+        LineReader::with_end(AtEnd::Stop)
+    }
+
+    // Nothing is read yet, and at the end of the input this is done.
+    fn with_end(at_end: AtEnd) -> LineReader
+        ensures empty { received result.line ≡ [] }
+        ensures end { result.at_end ≡ at_end }
     {
         LineReader {
             chunk: [0; CHUNK],
             next: 0,
             count: 0,
             line: LineBuffer::new(),
+            at_end,
         }
     }
 
     // Reads the next line: false where the input has ended. A last line without a line feed is a line too. The line itself
     // is asked of `line`, whose clauses say what it stands for: the result of an Option has none.
-    pub fn advance(&mut self, rt: &HostRuntime) -> io::Result<bool> {
+    pub fn advance(&mut self, rt: &HostRuntime) -> io::Result<bool>
+        ensures { self.old.at_end ≡ Stopped → result ≡ Ok false }
+    {
         let mut line = LineBuffer::new();
-        let found = self.take_line(rt, &mut line)?;
+        let found = self.take_line(rt, &mut line);
         self.line = line;
-        Ok(found)
+        found
     }
 
     // Takes what is left of a line: false where there is none, as `advance` says it.
-    fn take_line(&mut self, rt: &HostRuntime, line: &mut LineBuffer) -> io::Result<bool> {
+    fn take_line(&mut self, rt: &HostRuntime, line: &mut LineBuffer) -> io::Result<bool>
+        ensures { self.old.at_end ≡ Stopped → result ≡ Ok false }
+    {
+        if self.at_end == AtEnd::Stopped {
+            return Ok(false);
+        }
         for _ in 0..u64::MAX {
             if self.next == self.count && self.fill(rt)? == 0 {
                 return Ok(!line.is_empty());
@@ -72,13 +109,18 @@ impl LineReader {
         self.line.line()
     }
 
-    // Reads more, and says how much.
-    fn fill(&mut self, rt: &HostRuntime) -> io::Result<usize> {
+    // Reads more, and says how much. The end of the input stops a reader that is to stop.
+    fn fill(&mut self, rt: &HostRuntime) -> io::Result<usize>
+        ensures { IfOk result (λ count. count ≡ 0 → self.old.at_end ≡ Stop → self.new.at_end ≡ Stopped) }
+    {
         let mut chunk = [0; CHUNK];
         let count = rt.stdin().read(&mut chunk)?;
         self.chunk = chunk;
         self.next = 0;
         self.count = count;
+        if count == 0 && self.at_end == AtEnd::Stop {
+            self.at_end = AtEnd::Stopped;
+        }
         Ok(count)
     }
 }

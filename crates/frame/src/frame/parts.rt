@@ -1,5 +1,5 @@
 // The parts of a frame.
-ghost use Rattle.std.specs.Prelude.{◌≡◌, ◌+◌, ◌^◌, ◌<◌, ◌≤◌, not, length, OnOk, ⊤};
+ghost use Rattle.std.specs.Prelude.{◌≡◌, ◌+◌, ◌^◌, ◌<◌, ◌≤◌, not, length, OnOk};
 ghost use Rattle.std.specs.Result.{result_err};
 ghost use Rattle.std.specs.Int.Digits.{number_from_digits};
 ghost use Rattle.reading.specs.declared.fault.Fault.TheVariants.{PayloadLength};
@@ -9,7 +9,6 @@ ghost use Rattle.reading.specs.First.{when};
 
 use crate::frame::Frame;
 use reading::Fault;
-use std::alloc::AllocError;
 
 // The kind, the length byte, and the rest: the payload and the check byte.
 #[derive(Clone, Copy)]
@@ -26,26 +25,13 @@ pub struct Field {
     pub width: usize,
 }
 
-// Written out, since a derive is refused over an invariant. It does not fail.
-impl Clone for Frame {
-    ghost is_clone = { λ frame copy. held copy ≡ held frame };
-
-    ghost is_infallible = { λ frame. ⊤ };
-
-    fn clone(&self) -> Result<Frame, AllocError> {
-        Ok(Frame {
-            bytes: self.bytes.clone()?,
-        })
-    }
-}
-
 impl Frame {
     // The bytes of the frame.
     pub(crate) fn bytes(&self) -> &[u8]
         ensures value { result.now ≡ held self.now }
-        ensures most { length (held self.now) ≤ 64 }
+        ensures len { length result.now ≡ self.now.len }
     {
-        self.bytes.as_slice()
+        &self.bytes[0..self.len]
     }
 
     // The frame taken apart.

@@ -1,5 +1,5 @@
 // Reading a line as a frame.
-ghost use Rattle.std.specs.Prelude.{◌≡◌, ◌%◌, ◌<◌, ◌≤◌, not, length, is_some, IfOk, Some, sum};
+ghost use Rattle.std.specs.Prelude.{◌≡◌, ◌/◌, ◌%◌, ◌<◌, ◌≤◌, not, length, take, is_some, IfOk, Some, sum, OnOk};
 ghost use Rattle.std.specs.Result.{result_err};
 ghost use Rattle.reading.specs.declared.fault.Fault.TheVariants.{Digit};
 ghost use Rattle.frame.specs.Digit.{value_of};
@@ -10,12 +10,11 @@ ghost use Rattle.frame.specs.Held.{held};
 
 use crate::digit::value_of;
 use crate::frame::{Frame, LINE, SIZE};
-use arrayvec::ArrayVec;
 use reading::Fault;
 
 impl Frame {
     // The frame that a line spells, or the first refusal that fits the line.
-    #[tactic(auto, using(std::proofs::lemmas::Bool::Decides::nat_tests, crate::proofs::Spelling::spelled_bytes, crate::proofs::Spelling::bytes_below, crate::proofs::Spelling::length_bytes, crate::proofs::Bytes::each_below))]
+    #[tactic(auto, using(std::proofs::lemmas::Bool::Decides::nat_tests, crate::proofs::Spelling::spelled_bytes, crate::proofs::Spelling::bytes_below, crate::proofs::Spelling::length_bytes, crate::proofs::Bytes::each_below, crate::proofs::Sums::sealed_part))]
     pub fn read(line: &[u8]) -> Result<Frame, Fault>
         ensures refused { result_err result ≡ first (line_tests line.now) }
         ensures value { IfOk result (λ f. held f ≡ bytes_of line.now) }
@@ -25,29 +24,30 @@ impl Frame {
         if count % 2 == 1 || count < 6 || count > LINE {
             return Err(Fault::LineLength);
         }
-        let bytes = decode(line)?;
-        if sum_of(bytes.as_slice()) != 0 {
+        let mut bytes = [0; SIZE];
+        decode(line, &mut bytes)?;
+        let len = count / 2;
+        if sum_of(&bytes[0..len]) != 0 {
             return Err(Fault::Sum);
         }
-        Ok(Frame { bytes })
+        Ok(Frame { bytes, len })
     }
 }
 
-// The bytes of a line of digits.
-fn decode(line: &[u8]) -> Result<ArrayVec<u8, SIZE>, Fault>
+// The bytes of a line of digits, at the front of `bytes`.
+fn decode(line: &[u8], bytes: &mut [u8; SIZE]) -> Result<(), Fault>
     requires { (length line.now % 2 ≡ 0) × (length line.now ≤ 128) }
     ensures refused { result_err result ≡ digit_test line.now }
-    ensures value { IfOk result (λ bytes. bytes.items ≡ bytes_of line.now) }
+    ensures value { OnOk result (take (length line.now / 2) bytes.new ≡ bytes_of line.now) }
 {
     let (pairs, _) = line.as_chunks::<2>();
-    let mut bytes = ArrayVec::new();
     for (i, [high, low]) in pairs.iter().enumerate() {
         let column = 2 * i as u16 + 1;
         let high = digit(*high, column)?;
         let low = digit(*low, column + 1)?;
-        bytes.push(16 * high + low);
+        bytes[i] = 16 * high + low;
     }
-    Ok(bytes)
+    Ok(())
 }
 
 // The value of the digit in a column of the line.

@@ -2,8 +2,7 @@
 ghost use Rattle.std.specs.Prelude.{◌≡◌, ℕ, List, [], ◌∷◌, ◌++◌, length, take, ◌==◌};
 ghost use Rattle.line_buffer.specs.Received.{received, StandsFor};
 
-use crate::buffer::LineBuffer;
-use arrayvec::ArrayVec;
+use crate::buffer::{KEPT, LineBuffer};
 
 impl LineBuffer {
     // No line yet.
@@ -11,37 +10,44 @@ impl LineBuffer {
         ensures { received result ≡ [] }
     {
         LineBuffer {
-            bytes: ArrayVec::new(),
+            bytes: [0; KEPT],
+            len: 0,
         }
     }
 
     // One character more. Those past the 129th are not kept.
+    #[tactic(auto, using(crate::proofs::Fronts::push_room, crate::proofs::Fronts::push_full))]
     pub fn push(&mut self, byte: u8)
         ensures { received self.new ≡ take 129 (received self.old ++ byte ∷ []) }
     {
-        self.extend(&[byte]);
+        if self.len < KEPT {
+            self.bytes[self.len] = byte;
+            self.len += 1;
+        }
     }
 
     // More characters. Those past the 129th are not kept.
-    #[tactic(auto, using(crate::proofs::Fronts::front_more))]
+    #[tactic(auto, using(crate::proofs::Fronts::extended))]
     pub fn extend(&mut self, bytes: &[u8])
         ensures { received self.new ≡ take 129 (received self.old ++ bytes.now) }
     {
-        let room = self.bytes.remaining_capacity().min(bytes.len());
-        self.bytes.try_extend_from_slice(&bytes[..room]).unwrap();
+        let room = (KEPT - self.len).min(bytes.len());
+        let end = self.len + room;
+        self.bytes[self.len..end].copy_from_slice(&bytes[..room]);
+        self.len = end;
     }
 
     // Begins another line.
     pub fn clear(&mut self)
         ensures { received self.new ≡ [] }
     {
-        self.bytes.clear();
+        self.len = 0;
     }
 
     pub fn is_empty(&self) -> bool
         ensures { result ≡ (length (received self.now) == 0) }
     {
-        self.bytes.is_empty()
+        self.len == 0
     }
 
     // The line, or the front of it that is answered as the line would be.
@@ -50,6 +56,6 @@ impl LineBuffer {
         ensures value { result.now ≡ received self.now }
         ensures stands { (line : List ℕ) → received self.now ≡ take 129 line → StandsFor line result.now }
     {
-        self.bytes.as_slice()
+        &self.bytes[0..self.len]
     }
 }

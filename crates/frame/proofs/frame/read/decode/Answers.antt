@@ -1,4 +1,4 @@
-use Rattle.std.proofs.Common.{◌/◌, ◌<◌, length, arith}
+use Rattle.std.proofs.Common.{◌/◌, ◌<◌, length, ◌∙◌, arith, length-set}
 use Rattle.reading.proofs.Handed.{handed_on}
 use Rattle.frame.proofs.Decoding.{high_stops, low_stops, both_pass, byte_more}
 use Rattle.frame.proofs.frame.read.decode.Goals as goal
@@ -20,9 +20,10 @@ loop-i-preserved c =
     let i = c.loop-i.i in
     let front = c.as_chunks.ensures.front in
     let more : i < length line / 2 = omega arith in
+    let room : i < length c.loop-i.bytes = omega (arith, c.loop-i.invariant.2, c.requires) in
     let high = c.in_ok-high.ensures.value in
     let low = c.in_ok-low.ensures.value in (
       both_pass line pairs i front more c.loop-i.invariant.0 _ _ high low,
-      byte_more line pairs i front more c.loop-i.bytes.items _ _ _ c.push.ensures.items high low c.loop-i.invariant.1,
-      omega arith,
+      byte_more line pairs i front more c.loop-i.bytes _ _ high low room c.loop-i.invariant.1,
+      length-set c.loop-i.bytes i _ ∙ c.loop-i.invariant.2,
     )
