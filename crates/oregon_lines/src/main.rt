@@ -5,9 +5,9 @@ use line_reader::{Answered, BUFFER, LineReader};
 use oregon_card::{Card, take_card};
 use std::io;
 
-// Takes cards until one is accepted or the input ends.
+// Takes cards until one is accepted or the input ends, and reads no more then.
 fn main(rt: HostRuntime) -> io::Result<()> {
-    let mut reader = LineReader::new();
+    let mut reader = LineReader::fused();
     match reader.answer(&rt, |line, buffer| Ok(answer_card(line, buffer)))? {
         Some(_) => eprintln!(rt;
             "oregon-lines: the card is accepted; serving requests is not built yet"
