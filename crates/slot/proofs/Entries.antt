@@ -1,10 +1,12 @@
 -- Entries as bytes, back and forth.
-use Rattle.std.proofs.Common.{◌≡◌, ℕ, zero, suc, ◌*◌, ◌<◌, true, List, [], ◌∷◌, ◌++◌, length, get_or, take, drop, sym, refl, ap, ◌∙◌, ap₂, arith, rules}
-use Rattle.std.specs.List.{flat_map, AllByRecursion as All}
+use Rattle.std.proofs.Common.{◌≡◌, ℕ, zero, suc, ◌*◌, ◌<◌, true, List, [], ◌∷◌, ◌++◌, map, length, get_or, take, drop, sym, refl, ap, ◌∙◌, ap₂, arith, rules}
+use Rattle.std.specs.List.{flat_map, range_with_len, AllByRecursion as All}
 use Rattle.std.proofs.ByRecursion.{All-take, All-drop}
-use Rattle.std.proofs.lemmas.List.{nil_from_length, length-take-le, length-drop, take_all, take-append-drop}
+use Rattle.std.proofs.lemmas.List.{nil_from_length, length-take-le, length-drop, length-map, get_or-map, take_all, take-append-drop}
+use Rattle.std.proofs.lemmas.List.FromFn.{fill_by_all}
 use Rattle.reading.specs.declared.entry.Entry.{Entry}
 use Rattle.record.specs.Holding.{lawful_reading}
+use Rattle.record.specs.Meters.{blank}
 use Rattle.record.specs.Rows.{is_blank}
 use Rattle.slot.specs.Layout.{entry_bytes}
 use Rattle.slot.specs.Reading.{entry_in, entries_in}
@@ -62,3 +64,9 @@ entries_again (suc n) bs long fit =
     let here = entry_again (take 26 bs) (length-take-le 26 bs (omega arith)) (All-take (λ b. b < 256) 26 bs fit) in
     let rest = entries_again n (drop 26 bs) (simp length-drop (omega arith)) (All-drop (λ b. b < 256) 26 bs fit) in
     both here rest ∙ take-append-drop 26 bs
+
+-- The entries by their places are the entries.
+pub entries_listed : (entries : List Entry) → length entries ≡ 16 → map (λ i. entry_bytes (get_or entries i blank)) (range_with_len 0 16) ≡ map entry_bytes entries
+entries_listed entries long =
+    let made : ℕ → List ℕ = λ i. entry_bytes (get_or entries i blank) in
+    sym (fill_by_all made (map entry_bytes entries) 16 (made 0) (length-map entries entry_bytes ∙ long) (λ k below. get_or-map entry_bytes entries k blank (made 0) (omega (arith, long))))

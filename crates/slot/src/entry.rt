@@ -1,5 +1,6 @@
 // The entries of a slot, high bytes first.
 ghost use Rattle.std.specs.Prelude.{◌≡◌, ◌<◌, [], map, length, drop, slice_index_or};
+ghost use Rattle.record.specs.Meters.{blank};
 ghost use Rattle.slot.specs.Layout.{entry_bytes};
 ghost use Rattle.slot.specs.Reading.{entry_in, entries_in};
 
@@ -12,16 +13,21 @@ use std::array;
 // How many bytes an entry takes.
 const ENTRY: usize = 26;
 
-// The bytes of each entry.
+// The bytes of each entry. By their places: an array's `map` hands each entry on by value, which takes half as long again.
 pub(crate) fn entries_bytes(entries: &[Entry; READINGS]) -> [[u8; ENTRY]; READINGS]
     ensures { result ≡ map entry_bytes entries.now }
 {
-    entries.map(entry_bytes)
+    array::from_fn(
+        |i|
+            requires { i < 16 }
+            ensures { result ≡ entry_bytes (slice_index_or entries.entry.now i blank) }
+        { entry_bytes(&entries[i]) },
+    )
 }
 
 // The bytes of an entry.
-fn entry_bytes(entry: Entry) -> [u8; ENTRY]
-    ensures { result ≡ entry_bytes entry }
+fn entry_bytes(entry: &Entry) -> [u8; ENTRY]
+    ensures { result ≡ entry_bytes entry.now }
 {
     let [m0, m1] = entry.meter.to_be_bytes();
     let [s0, s1] = entry.schedule.to_be_bytes();
