@@ -36,23 +36,25 @@ position_map : {X Y : Type 0} (p : Y → Bool) (f : X → Y) (i : ℕ) (xs : Lis
 position_map p f i [] = refl
 position_map p f i (x ∷ xs) = ap (λ o. cond (p (f x)) (Some i) o) (position_map p f (i + 1) xs)
 
+-- The first slot from number n on whose row passes a test.
+pub first_from : (p : Row → Bool) (bytes : List ℕ) (n : ℕ) (later : List (List ℕ)) (found : Option ℕ) → later ≡ drop n (slots_of bytes) → found ≡ position (λ slot. p (row_in slot)) later → option_map (λ k. n + k) found ≡ position_from p n (drop n (table_of bytes))
+first_from p bytes n later found rest is =
+    let q = λ (slot : List ℕ). p (row_in slot) in
+    let shift : n + 0 ≡ n = omega arith in
+    ap (option_map (λ k. n + k)) (is ∙ position_from-zero q later) ∙ position_on q n 0 later ∙ ap (λ m. position_from q m later) shift ∙ position_map p row_in n later
+    ∙ ap (position_from p n) (ap (map row_in) rest ∙ sym (drop-map row_in n (slots_of bytes)))
+
 -- The first slot from number n on that has a site month.
 pub placed : (at : SiteMonth) (bytes : List ℕ) (n : ℕ) (later : List (List ℕ)) (found : Option ℕ) → later ≡ drop n (slots_of bytes) → found ≡ position (λ slot. keyed at (row_in slot)) later → option_map (λ k. n + k) found ≡ place_from n at (drop n (table_of bytes))
-placed at bytes n later found rest is =
-    let p = λ (slot : List ℕ). keyed at (row_in slot) in
-    let shift : n + 0 ≡ n = omega arith in
-    ap (option_map (λ k. n + k)) (is ∙ position_from-zero p later) ∙ position_on p n 0 later ∙ ap (λ m. position_from p m later) shift ∙ position_map (keyed at) row_in n later
-    ∙ ap (place_from n at) (ap (map row_in) rest ∙ sym (drop-map row_in n (slots_of bytes)))
+placed at bytes n later found rest is = first_from (keyed at) bytes n later found rest is
 
 -- A search from the first row on finds the row, or there is none.
 pub found_from : (at : SiteMonth) (rows : List Row) (result : Option ℕ) → result ≡ place_from 0 at rows → Found rows at result
 found_from at rows result is = found_position at rows result (is ∙ sym (position_from-zero (keyed at) rows))
 
--- The first slot that is not in use.
-pub first_vacant : (slots : List (List ℕ)) (result : Option ℕ) → result ≡ position (λ slot. is_free (row_in slot)) slots → Free (map row_in slots) result
-first_vacant slots result is =
-    free_position (map row_in slots) result
-    (is ∙ position_from-zero (λ slot. is_free (row_in slot)) slots ∙ position_map is_free row_in 0 slots ∙ sym (position_from-zero is_free (map row_in slots)))
+-- A search from the first row on finds one that is not in use, or there is none.
+pub first_vacant : (rows : List Row) (result : Option ℕ) → result ≡ position_from is_free 0 rows → Free rows result
+first_vacant rows result is = free_position rows result (is ∙ sym (position_from-zero is_free rows))
 
 -- Some row has the site month exactly where it is held.
 place_holds : (i : ℕ) (at : SiteMonth) (rows : List Row) → is_some (place_from i at rows) ≡ holds at (held_in rows)

@@ -1,5 +1,6 @@
 // The slots of an image.
 ghost use Rattle.std.specs.Prelude.{◌≡◌, ◌*◌, ◌<◌, not, length, take, drop, slice_index_or};
+ghost use Rattle.std.specs.List.{position_from};
 ghost use Rattle.record.specs.Rows.{keyed, vacant};
 ghost use Rattle.record.specs.States.{used};
 ghost use Rattle.slot.specs.Reading.{row_in};
@@ -53,10 +54,21 @@ fn is_of(slot: &[u8; SLOT], at: SiteMonth) -> bool
 }
 
 // The first slot that is not in use.
+#[tactic(auto, using(crate::proofs::Places::first_vacant))]
 pub fn vacancy(bytes: &[u8]) -> Option<usize>
     ensures { Free (table_of bytes.now) result }
 {
-    slots_of(bytes).iter().position(is_vacant)
+    vacancy_from(bytes, 0)
+}
+
+// The first slot from one on that is not in use. As `place`, with another test: one function of both, which takes the test, is no
+// plainer.
+fn vacancy_from(bytes: &[u8], from: usize) -> Option<usize>
+    ensures { result ≡ position_from (λ row. not (used row.state)) from (drop from (table_of bytes.now)) }
+{
+    let later = slots_of(bytes).get(from..)?;
+    let i = later.iter().position(is_vacant)?;
+    Some(from + i)
 }
 
 // Whether a slot is not in use, by its head.
