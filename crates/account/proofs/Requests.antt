@@ -85,7 +85,7 @@ module _ (b : book.Meaning) (s t : store.Meaning) where
   refused q fault is leaves = subst (λ v. Responds b s v (Err fault) t) (sym is) (record { answers = refl; changes = leaves })
 
   -- There is always room for a record that is held.
-  not_full : (at : SiteMonth) → is_some (look_up at s.held) ≡ true → full_test at s ≡ None
+  pub not_full : (at : SiteMonth) → is_some (look_up at s.held) ≡ true → full_test at s ≡ None
   not_full at here = rw here
 
   -- A meter that stands in the site month has its room.

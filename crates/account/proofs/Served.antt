@@ -57,7 +57,7 @@ answer_made b held (Err fault) (Ok x) a made is = cc
 answer_made b held (Err fault) (Err other) a made is = cc
 
 -- What is heard of an answer that was written.
-heard_written : (a : Answer) (before now : List ℕ) (r : Result ℕ Fault) → Written (answer_line a) before now r → heard r now ≡ written (buffer_test (length before)) a
+pub heard_written : (a : Answer) (before now : List ℕ) (r : Result ℕ Fault) → Written (answer_line a) before now r → heard r now ≡ written (buffer_test (length before)) a
 heard_written a before now (Ok count) is =
     let line = answer_line a in
     let bytes : take count now ≡ line = ap (take count) is.kept ∙ take_at line (drop (length line) before) count (sym is.count) in

@@ -28,11 +28,11 @@ module _ (b : book.Meaning) (s : store.Meaning) (line : List ℕ) where
   in_order = ap (λ test. ruled test (requested (bytes_of line))) (first_append (request_tests line) (tests_of b s (requested (bytes_of line))))
 
   -- The line has no request that can be read.
-  unread : (fault : Fault) → Some fault ≡ first (request_tests line) → verdict b s 128 line ≡ Err fault
+  pub unread : (fault : Fault) → Some fault ≡ first (request_tests line) → verdict b s 128 line ≡ Err fault
   unread fault fits = in_order ∙ ap (λ test. ruled (or_else test (first (tests_of b s (requested (bytes_of line))))) (requested (bytes_of line))) (sym fits)
 
   -- It has one, whose tests decide.
-  tests_decide : (q : Asked) → None ≡ first (request_tests line) → requested (bytes_of line) ≡ Some q → verdict b s 128 line ≡ decided b s q
+  pub tests_decide : (q : Asked) → None ≡ first (request_tests line) → requested (bytes_of line) ≡ Some q → verdict b s 128 line ≡ decided b s q
   tests_decide q none is =
       in_order
       ∙ ap (λ test. ruled (or_else test (first (tests_of b s (requested (bytes_of line))))) (requested (bytes_of line))) (sym none)

@@ -58,7 +58,7 @@ few_at at (h ∷ held) is =
 pub each_line : (P : ℤ → Type 0) (f : ℕ → ℤ) → ((line : ℕ) → P (f line)) → All P (map f (range_with_len 0 lines))
 each_line P f each = All-map P f (range_with_len 0 lines) (All-from_get_or (λ line. P (f line)) (range_with_len 0 lines) 0 (λ i _. each (get_or (range_with_len 0 lines) i 0)))
 
-fit_settlement : (n : ℕ) → n ≤ 2000000000 → SFits w32 (pos n)
+pub fit_settlement : (n : ℕ) → n ≤ 2000000000 → SFits w32 (pos n)
 fit_settlement n a = omega (arith, ints)
 
 fit_difference : (m n : ℕ) → m ≤ 2000000000 → n ≤ 2000000000 → SFits w32 (pos m -ℤ pos n)
@@ -82,7 +82,7 @@ module _ (b : book.Meaning) (laws : book.Lawful b) where
   pub settlements_fit : (es : List Entry) → Few es → All (SFits w32) (settlements b es)
   settlements_fit es few = each_line (SFits w32) (λ line. pos (settled b es line)) (λ line. fit_settlement (settled b es line) (settled_bound es few line))
 
-  difference_fits : (es fs : List Entry) → Few es → Few fs → (line : ℕ) → SFits w32 (difference b es fs line)
+  pub difference_fits : (es fs : List Entry) → Few es → Few fs → (line : ℕ) → SFits w32 (difference b es fs line)
   difference_fits es fs few more line = fit_difference (settled b fs line) (settled b es line) (settled_bound fs more line) (settled_bound es few line)
 
   pub differences_fit : (es fs : List Entry) → Few es → Few fs → All (SFits w32) (differences b es fs)

@@ -20,7 +20,7 @@ module _ (slot : List ℕ) (long : length slot ≡ 424) where
   zeros_lawful h = ap lawful_slot (sym (zeros_vacant slot long h))
 
   module _ (low : leb (get_or slot 0 0) 2 ≡ true) where
-    tidy_decides : tidy (row_in slot) ≡ lawful_slot slot
+    pub tidy_decides : tidy (row_in slot) ≡ lawful_slot slot
     tidy_decides =
         ap (λ t. t && tidy (row_in slot)) (sym low)
         ∙ ap (λ t. t && (leb (get_or slot 0 0) 2 && tidy (row_in slot))) (sym (eq-eqb (length slot) 424 long))

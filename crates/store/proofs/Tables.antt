@@ -231,10 +231,14 @@ each_lawful (row ∷ rows) h =
 pub pass_set : {X : Type 0} (p : X → Bool) (xs : List X) (i : ℕ) (new : X) → p new ≡ true → list_all p xs ≡ true → list_all p (set xs i new) ≡ true
 pass_set p xs i new h k = list_all-from_AllPass p (set xs i new) (All-set (λ x. p x ≡ true) xs i new h (AllPass-from_list_all p xs k))
 
--- A table of vacant rows is lawful.
+-- A table of vacant rows is lawful and holds nothing.
 pub vacant_lawful : (n : ℕ) → lawful_table (replicate n vacant) ≡ true
 vacant_lawful zero = refl
 vacant_lawful (suc n) = vacant_lawful n
+
+pub vacant_held : (n : ℕ) → held_in (replicate n vacant) ≡ []
+vacant_held zero = refl
+vacant_held (suc n) = vacant_held n
 
 -- The record that is held under the key of a row is that row's.
 pub look_at : (at : SiteMonth) (rows : List Row) (i : ℕ) → i < length rows → Apart at i rows → keyed at (get_or rows i vacant) ≡ true → look_up at (held_in rows) ≡ Some (holding (get_or rows i vacant))
