@@ -1,7 +1,8 @@
 // Lines from standard input.
-ghost use Rattle.std.specs.Prelude.{◌≡◌, ℕ, ◌≤◌, false, List, [], take, Ok, IfOk};
+ghost use Rattle.std.specs.Prelude.{◌≡◌, ℕ, ◌≤◌, false, List, [], take, Ok, MatchResult};
 ghost use Rattle.line_buffer.specs.Received.{received, StandsFor};
-ghost use Rattle.line_reader.specs.declared.reader.AtEnd.TheVariants.{Stop, Stopped};
+ghost use Rattle.line_reader.specs.Ends.{after_read};
+ghost use Rattle.line_reader.specs.declared.reader.AtEnd.TheVariants.{GoOn, Stop, Stopped};
 
 use line_buffer::LineBuffer;
 use std::io;
@@ -36,7 +37,8 @@ pub struct LineReader {
 impl LineReader {
     // Nothing is read yet. Where the input has ended, it is asked again for the next line.
     pub fn new() -> LineReader
-        ensures { received result.line ≡ [] }
+        ensures empty { received result.line ≡ [] }
+        ensures goes_on { result.at_end ≡ GoOn }
     {
         LineReader::with_end(AtEnd::GoOn)
     }
@@ -66,7 +68,8 @@ impl LineReader {
     // Reads the next line: false where the input has ended. A last line without a line feed is a line too. The line itself
     // is asked of `line`, whose clauses say what it stands for: the result of an Option has none.
     pub fn advance(&mut self, rt: &HostRuntime) -> io::Result<bool>
-        ensures { self.old.at_end ≡ Stopped → result ≡ Ok false }
+        ensures goes_on { self.old.at_end ≡ GoOn → self.new.at_end ≡ GoOn }
+        ensures stopped { self.old.at_end ≡ Stopped → (result ≡ Ok false) × ((received self.new.line ≡ []) × (self.new.at_end ≡ Stopped)) }
     {
         let mut line = LineBuffer::new();
         let found = self.take_line(rt, &mut line);
@@ -76,7 +79,8 @@ impl LineReader {
 
     // Takes what is left of a line: false where there is none, as `advance` says it.
     fn take_line(&mut self, rt: &HostRuntime, line: &mut LineBuffer) -> io::Result<bool>
-        ensures { self.old.at_end ≡ Stopped → result ≡ Ok false }
+        ensures goes_on { self.old.at_end ≡ GoOn → self.new.at_end ≡ GoOn }
+        ensures stopped { self.old.at_end ≡ Stopped → (result ≡ Ok false) × ((received line.new ≡ received line.old) × (self.new.at_end ≡ Stopped)) }
     {
         if self.at_end == AtEnd::Stopped {
             return Ok(false);
@@ -111,7 +115,7 @@ impl LineReader {
 
     // Reads more, and says how much. The end of the input stops a reader that is to stop.
     fn fill(&mut self, rt: &HostRuntime) -> io::Result<usize>
-        ensures { IfOk result (λ count. count ≡ 0 → self.old.at_end ≡ Stop → self.new.at_end ≡ Stopped) }
+        ensures { MatchResult result (λ count. self.new.at_end ≡ after_read self.old.at_end count) (λ _. self.new.at_end ≡ self.old.at_end) }
     {
         let mut chunk = [0; CHUNK];
         let count = rt.stdin().read(&mut chunk)?;
